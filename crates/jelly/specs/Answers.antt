@@ -32,22 +32,22 @@ answer_number room (Ok None) = 1
 answer_number room (Err why) = 16 + lookup_number why
 
 -- the room after the answer: only a value that fits changes it
-abbrev pub room_told : List ℕ → LookupResult → List ℕ
-room_told room (Ok (Some v)) = filled_room room v
-room_told room (Ok None) = room
-room_told room (Err why) = room
+abbrev pub room_after : List ℕ → LookupResult → List ℕ
+room_after room (Ok (Some v)) = filled_room room v
+room_after room (Ok None) = room
+room_after room (Err why) = room
 
 -- the length after the answer: that of a value, whether it fits or not, and otherwise what it was
-abbrev pub length_told : ℕ → LookupResult → ℕ
-length_told n (Ok (Some v)) = length v
-length_told n (Ok None) = n
-length_told n (Err why) = n
+abbrev pub length_after : ℕ → LookupResult → ℕ
+length_after n (Ok (Some v)) = length v
+length_after n (Ok None) = n
+length_after n (Err why) = n
 
 -- a call answers what was shown, by its number, the caller's room and the length
 pub record IsAnswer (shown : LookupResult) (room room' : List ℕ) (n n' number : ℕ) : Type 0 where
   pub number_is : number ≡ answer_number room shown
-  pub room_is : room' ≡ room_told room shown
-  pub length_is : n' ≡ length_told n shown
+  pub room_is : room' ≡ room_after room shown
+  pub length_is : n' ≡ length_after n shown
 
 -- ---- what follows
 -- what an answer says of a name: after 0 the value in the room, after 1 that there is none

@@ -15,7 +15,7 @@ use Rattle.jf_answers.specs.Answers.{Answer, answer, retired_below}
 use Rattle.jf_answers.proofs.AnswerLaws.{IsPruned, IsOf, Follows, EachPin, answer-IsSoundAnswer, answer-EachPin}
 use Rattle.jf_answers.specs.Prunings.{next_floor}
 use Rattle.jf_answers.specs.Runs.{Run, answers_from, answers, answer_text, text_of, run_entries}
-use Rattle.jf_answers.specs.Explains.{Timeline, IsAmong, state_after, answered_with_floor, answer_with, floor_in, HasFloor, Answered, Looks, Changes, AreAnswered, text_in, places_told, places_owned, timeline_of, Explains}
+use Rattle.jf_answers.specs.Explains.{Timeline, IsAmong, state_after, answered_with_floor, answer_with, floor_in, HasFloor, Answered, Looks, HasAnsweredChange, AreAnswered, text_in, places_in_reply, places_owned, timeline_of, Explains}
 use Rattle.jf_answers.specs.Laws.{OneSessionExplainsItself, OneSessionExplainsAll}
 use Rattle.jf_answers.proofs.Pins.{EachNamed, EachNamed-one, IsFloor-next}
 
@@ -68,7 +68,7 @@ record FirstReplies (h : Timeline) (own : Own) (seen : ℕ) (lines : List (List 
   replies : List Answered
   answered : AreAnswered h own seen lines replies
   text : text_in replies ≡ text_of run
-  places : places_told replies ≡ places_owned own.number seen left
+  places : places_in_reply replies ≡ places_owned own.number seen left
   owned : AllByRecursion (λ e. owner_of e < own.number + 1) left
 
 -- how far a run is: the entries done, and the entries to come
@@ -177,7 +177,7 @@ module _ (h : Timeline) (s : State) (own : Own) (line : List ℕ) (lines : List 
     same : answer_with (floor_in e) (state_after h (length (done ++ e ∷ []) - 1)) own line ≡ a
     same = ap (λ (t : State). answer_with (floor_in e) t own line) before ∙ ap (answered_with_floor (floor_in e) s own a) some ∙ floor_stays s own a e some of.pruned_so
 
-    changes : Changes h own (length done) line reply
+    changes : HasAnsweredChange h own (length done) line reply
     changes = record {
       event = e;
       later = let l = length-push done e in omega arith;

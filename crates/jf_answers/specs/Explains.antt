@@ -76,7 +76,7 @@ pub record Looks (h : Timeline) (own : Own) (seen : ℕ) (line : List ℕ) (r : 
   pub by_itself : IsTrue (is_own_line line) → r.number ≡ seen
 
 -- a line that gives an entry gives the n-th, later than any that the session had seen, and has the reply computed from the n - 1 entries before it
-pub record Changes (h : Timeline) (own : Own) (seen : ℕ) (line : List ℕ) (r : Answered) : Type 0 where
+pub record HasAnsweredChange (h : Timeline) (own : Own) (seen : ℕ) (line : List ℕ) (r : Answered) : Type 0 where
   pub event : Entry
   pub later : seen < r.number
   pub stands : slice_get h.entries (r.number - 1) ≡ Some event
@@ -90,7 +90,7 @@ pub record Changes (h : Timeline) (own : Own) (seen : ℕ) (line : List ℕ) (r 
 pub record IsAnswered (h : Timeline) (own : Own) (seen : ℕ) (line : List ℕ) (r : Answered) : Type 0 where
   pub rises : seen ≤ r.number
   pub within : r.number ≤ length h.entries
-  pub answered : Looks h own seen line r ⊎ Changes h own seen line r
+  pub answered : Looks h own seen line r ⊎ HasAnsweredChange h own seen line r
 
 -- the replies are those to the first lines, in turn
 abbrev pub AreAnswered : Timeline → Own → ℕ → List (List ℕ) → List Answered → Type 0
@@ -113,9 +113,9 @@ abbrev pub text_in : List Answered → List ℕ
 text_in rs = concat (map (λ r. r.text) rs)
 
 -- the numbers of the replies to lines that gave an entry
-abbrev pub places_told : List Answered → List ℕ
-places_told [] = []
-places_told (r ∷ rs) = if is_some r.entry then r.number ∷ places_told rs else places_told rs
+abbrev pub places_in_reply : List Answered → List ℕ
+places_in_reply [] = []
+places_in_reply (r ∷ rs) = if is_some r.entry then r.number ∷ places_in_reply rs else places_in_reply rs
 
 -- the places, counted from n + 1, of the entries with this owner
 abbrev pub places_owned : ℕ → ℕ → List Entry → List ℕ
@@ -132,13 +132,13 @@ pub record GaveOneMore (h : Timeline) (s : ℕ) (lines : List (List ℕ)) (rs : 
   pub line : List ℕ
   pub next : next_line lines rs ≡ Some line
   pub unwritten : Answered
-  pub changes : Changes h (own_after_replies (begun_session s) rs) (seen_after_replies 0 rs) line unwritten
-  pub places : places_owned s 0 h.entries ≡ places_told rs ++ unwritten.number ∷ []
+  pub changes : HasAnsweredChange h (own_after_replies (begun_session s) rs) (seen_after_replies 0 rs) line unwritten
+  pub places : places_owned s 0 h.entries ≡ places_in_reply rs ++ unwritten.number ∷ []
 
 -- the entries of a session are those that its lines gave, each at its own place; a session that ran out of memory may have one more, without a reply
 pub record IsSession (h : Timeline) (out_of_memory : List ℕ) (s : ℕ) (lines : List (List ℕ)) (rs : List Answered) : Type 0 where
   pub replies : AreAnswered h (begun_session s) 0 lines rs
-  pub entries : (places_owned s 0 h.entries ≡ places_told rs) ⊎ (IsAmong out_of_memory s × GaveOneMore h s lines rs)
+  pub entries : (places_owned s 0 h.entries ≡ places_in_reply rs) ⊎ (IsAmong out_of_memory s × GaveOneMore h s lines rs)
 
 -- sessions from number s on, one for each script
 abbrev pub AreSessions : Timeline → List ℕ → ℕ → List (List (List ℕ)) → List (List Answered) → Type 0

@@ -7,7 +7,7 @@ use Rattle.jf_path.specs.Limits.{max_pins}
 use Rattle.atomic_table.specs.Table.{step, keeps, stepped, Allows}
 use Rattle.jf_board.specs.Rule.{Account, IsWritten, PlaceFits, JoinedFit, IsAbsent, ViewFits, IsSoundAccount, IsBoard, opening_view}
 use Rattle.jf_board.specs.declared.views.PlaceView.{PlaceView}
-use Rattle.jf_board.specs.Steps.{TakesNumber, newly_numbered, numbering, BoardSeat}
+use Rattle.jf_board.specs.Steps.{TakesNumber, newly_numbered, with_number_given, BoardSeat}
 use Rattle.jf_board.specs.declared.views.View.{View}
 use Rattle.jf_board.specs.declared.views.View.TheVariants.{Pins, Prunes, Spent}
 use Rattle.jf_board.specs.declared.views.Hold.TheVariants.{Free}
@@ -66,7 +66,7 @@ new_place p id c found r = record {
 pub numbers : (passes slots id : ℕ) (me : BoardSeat) (q : PrunerView) → me.0 ≡ Prunes q → q.count < passes → passes < 2 ^ 32 → Allows (IsBoard passes) slots id me 2 (λ x. (x + 1) % 2 ^ 64) (TakesNumber (step slots 2 1 0 none) me)
 numbers passes slots id me q is room small s r _ at _ =
     let fit = pruner_at passes s r id me.0 q is at in let p = r.account in let c : ℕ = q.count in let found : c ≡ p.count = fit.count_is in let word : get_or s.words 2 0 ≡ p.count = r.written.count_is in
-    let bound : passes < 4294967296 = small in let up : (get_or s.words 2 0 + 1) % 18446744073709551616 ≡ c + 1 = omega arith in let w : View = Prunes (numbering q) in (
+    let bound : passes < 4294967296 = small in let up : (get_or s.words 2 0 + 1) % 18446744073709551616 ≡ c + 1 = omega arith in let w : View = Prunes (with_number_given q) in (
       w,
       keeps,
       tt,
@@ -85,7 +85,7 @@ numbers passes slots id me q is room small s r _ at _ =
           }
           (λ j u other f. count_else p (c + 1) id j u (omega arith) (λ e. other (e ∙ sym fit.alone)) f)),
       λ q' is'. let same : Prunes q ≡ Prunes q' = sym is ∙ is' in let qq : q ≡ q' = cc in
-          subst (λ (z : PrunerView). (get_or s.words 2 0 ≡ z.count) × (with_view w me ≡ with_view (Prunes (numbering z)) me)) qq (word ∙ sym found, refl),
+          subst (λ (z : PrunerView). (get_or s.words 2 0 ≡ z.count) × (with_view w me ≡ with_view (Prunes (with_number_given z)) me)) qq (word ∙ sym found, refl),
     )
 
 -- the first seat agrees with an account that has given no numbers

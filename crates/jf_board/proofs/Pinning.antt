@@ -8,12 +8,12 @@ use Rattle.jf_board.specs.declared.views.Hold.{Hold}
 use Rattle.jf_board.specs.declared.views.Hold.TheVariants.{Free, Announced, Confirmed}
 use Rattle.jf_board.specs.declared.views.PlaceView.{PlaceView}
 use Rattle.jf_board.specs.States.{pinned_at, refused_at, Agrees, IsLeastFree, AreNewPlaces, PlaceState}
-use Rattle.jf_board.specs.Steps.{confirmed_from, announcing, confirming, with_hold, newly_numbered}
+use Rattle.jf_board.specs.Steps.{confirmed_from, with_announcement, with_confirmation, with_hold, newly_numbered}
 use Rattle.jf_board.specs.Refusals.{RefusedPin}
 use Rattle.jf_board.specs.declared.pin_refused.PinRefused.TheVariants.{Retired}
 
 -- a version announced is confirmed if the gate is at most it
-pub confirmed_view : (v : PlaceView) (i version gate : ℕ) → i < max_pins → length v.holds ≡ max_pins → gate ≤ version → confirming (announcing v i version) gate ≡ pinned_at v i version gate
+pub confirmed_view : (v : PlaceView) (i version gate : ℕ) → i < max_pins → length v.holds ≡ max_pins → gate ≤ version → with_confirmation (with_announcement v i version) gate ≡ pinned_at v i version gate
 confirmed_view v i version gate small eight le = let A : Hold = Announced version in
     let was : get_or (set v.holds i A) i Free ≡ A = get_or-set_same v.holds i A Free (omega arith) in
     let now : confirmed_from gate (get_or (set v.holds i A) i Free) ≡ Confirmed version = ap (confirmed_from gate) was ∙ ap (λ b. cond b (Confirmed version) A) (le-leb gate version le) in
@@ -21,7 +21,7 @@ confirmed_view v i version gate small eight le = let A : Hold = Announced versio
     ap (λ (hs : List Hold). record (pinned_at v i version gate) { holds = hs }) same
 
 -- a version announced, not confirmed and withdrawn leaves all holds unchanged
-pub refused_view : (v : PlaceView) (i version gate : ℕ) → get_or v.holds i Free ≡ Free → with_hold (confirming (announcing v i version) gate) i Free ≡ refused_at v i version gate
+pub refused_view : (v : PlaceView) (i version gate : ℕ) → get_or v.holds i Free ≡ Free → with_hold (with_confirmation (with_announcement v i version) gate) i Free ≡ refused_at v i version gate
 refused_view v i version gate free = let A : Hold = Announced version in let h : Hold = confirmed_from gate (get_or (set v.holds i A) i Free) in
     let same : set (set (set v.holds i A) i h) i Free ≡ v.holds = set-set (set v.holds i A) i h Free ∙ (set-set v.holds i A Free ∙ (ap (set v.holds i) (sym free) ∙ set-get_or v.holds i Free)) in
     ap (λ (hs : List Hold). record (refused_at v i version gate) { holds = hs }) same
@@ -41,19 +41,19 @@ pub least_free : (pins : List (Option ℕ)) (v : PlaceView) (i : ℕ) → ((k : 
 least_free pins v i agree small free before = ((small, free_of (get_or pins i None) (get_or v.holds i Free) (agree i small) free), λ k l. held_of (get_or pins k None) (get_or v.holds k Free) (agree k (omega arith)) (before k l))
 
 -- from the view before, w, to the view x after the version was announced and the gate loaded
-pub pin_ok : (w v x y : PlaceView) (i version gate : ℕ) → v ≡ w → IsLeastFree v i → length v.holds ≡ max_pins → gate ≤ version → y ≡ announcing v i version → x ≡ confirming y gate
+pub pin_ok : (w v x y : PlaceView) (i version gate : ℕ) → v ≡ w → IsLeastFree v i → length v.holds ≡ max_pins → gate ≤ version → y ≡ with_announcement v i version → x ≡ with_confirmation y gate
     → IsLeastFree w i × (x.gate ≤ version) × (x ≡ pinned_at w i version x.gate)
-pin_ok w v x y i version gate same free eight le e e' = let k : x ≡ pinned_at v i version gate = e' ∙ (ap (λ z. confirming z gate) e ∙ confirmed_view v i version gate free.0.0 eight le) in let g : x.gate ≡ gate = ap (λ (z : PlaceView). z.gate) k in
+pin_ok w v x y i version gate same free eight le e e' = let k : x ≡ pinned_at v i version gate = e' ∙ (ap (λ z. with_confirmation z gate) e ∙ confirmed_view v i version gate free.0.0 eight le) in let g : x.gate ≡ gate = ap (λ (z : PlaceView). z.gate) k in
     (subst (λ z. IsLeastFree z i) same free, omega arith, k ∙ (λ j. pinned_at (same j) i version (sym g j)))
 
 -- the views between a place and one whose version was refused
-pub pin_refused : (w v x y z : PlaceView) (i version gate : ℕ) → v ≡ w → IsLeastFree v i → version < gate → y ≡ announcing v i version → x ≡ confirming y gate → z ≡ with_hold x i Free → RefusedPin w version z (Retired gate)
+pub pin_refused : (w v x y z : PlaceView) (i version gate : ℕ) → v ≡ w → IsLeastFree v i → version < gate → y ≡ with_announcement v i version → x ≡ with_confirmation y gate → z ≡ with_hold x i Free → RefusedPin w version z (Retired gate)
 pin_refused w v x y z i version gate same free over e e' e'' = (
   over,
   (
     i,
     subst (λ u. IsLeastFree u i) same free,
-    e'' ∙ (ap (λ u. with_hold u i Free) (e' ∙ ap (λ u. confirming u gate) e) ∙ (refused_view v i version gate free.0.1 ∙ ap (λ u. refused_at u i version gate) same)),
+    e'' ∙ (ap (λ u. with_hold u i Free) (e' ∙ ap (λ u. with_confirmation u gate) e) ∙ (refused_view v i version gate free.0.1 ∙ ap (λ u. refused_at u i version gate) same)),
   ),
 )
 

@@ -10,7 +10,7 @@ use Rattle.atomic_table.specs.Table.{step, keeps, Allows}
 use Rattle.jf_board.specs.declared.views.Hold.{Hold}
 use Rattle.jf_board.specs.Rule.{Account, PlaceFits, JoinedFit, Has, ViewFits, Listed, Below, IsSoundAccount, word_of, IsWritten, IsBoard}
 use Rattle.jf_board.specs.declared.views.PlaceView.{PlaceView}
-use Rattle.jf_board.specs.Steps.{AnnouncesVersion, announcing, BoardSeat, confirmed_from, confirming, LoadsGate, with_hold, WithdrawsVersion}
+use Rattle.jf_board.specs.Steps.{AnnouncesVersion, with_announcement, BoardSeat, confirmed_from, with_confirmation, LoadsGate, with_hold, WithdrawsVersion}
 use Rattle.jf_board.specs.declared.views.View.{View}
 use Rattle.jf_board.specs.declared.views.View.TheVariants.{Pins, Prunes, Spent}
 use Rattle.jf_board.specs.declared.views.Hold.TheVariants.{Free, Announced, Confirmed}
@@ -108,7 +108,7 @@ longer xs y x has = (has.0, at_longer xs (y ∷ []) has.0 x has.1)
 pub announces : (passes slots id i version : ℕ) (me : BoardSeat) (v : PlaceView) → me.0 ≡ Pins v → i < max_pins
     → Allows (IsBoard passes) slots id me (max_pins * v.number + i + 3) (λ _. version + 1) (λ _. AnnouncesVersion (step slots (max_pins * v.number + i + 3) (version + 1) 0 none) me (version + 1))
 announces passes slots id i version me v is small s r _ at _ =
-    let fit = place_at passes s r id me.0 v is at in let p = r.account in let vs : List ℕ = v.announced ++ version ∷ [] in let w : PlaceView = announcing v i version in let h : Hold = Announced version in
+    let fit = place_at passes s r id me.0 v is at in let p = r.account in let vs : List ℕ = v.announced ++ version ∷ [] in let w : PlaceView = with_announcement v i version in let h : Hold = Announced version in
     let grows : (x : ℕ) → Has (p.versions v.number) x → Has vs x = λ x has. longer v.announced version x (subst (λ xs. Has xs x) (sym fit.announced) has) in
     let given = fit.numbered in let few = number_below passes s r in (
       Pins w,
@@ -118,7 +118,7 @@ announces passes slots id i version me v is small s r _ at _ =
           (sound_pinned p v.number i h vs small given tt (λ _. tt) (length v.announced, at_last v.announced version (length v.announced) refl) grows r.sound) r.few
           (placed_here p id i h vs v.gate i v small small fit.loaded fit) (λ j u other f. pinned_else p v.number i h vs j u small (λ e. other (sym e ∙ fit.mine)) grows f),
       λ v' i' version' is' word first. let same : Pins v ≡ Pins v' = sym is ∙ is' in let vv : v ≡ v' = cc in let nn : v.number ≡ v'.number = ap (λ (z : PlaceView). z.number) vv in
-          let ii : i ≡ i' = omega arith in let ee : version ≡ version' = omega arith in λ j. with_view (Pins (announcing (vv j) (ii j) (ee j))) me,
+          let ii : i ≡ i' = omega arith in let ee : version ≡ version' = omega arith in λ j. with_view (Pins (with_announcement (vv j) (ii j) (ee j))) me,
     )
 
 -- the words are those of the account if a hold changes and its word does not
@@ -166,7 +166,7 @@ hold_listed p id v i small sound r = subst (λ (xs : List ℕ). Listed xs (p.hol
 pub confirms : (passes slots id : ℕ) (me : BoardSeat) (v : PlaceView) → me.0 ≡ Pins v → Allows (IsBoard passes) slots id me 0 (λ x. x) (LoadsGate (step slots 0 0 0 none) me)
 confirms passes slots id me v is s r _ at _ =
     let fit = place_at passes s r id me.0 v is at in let p = r.account in let i : ℕ = v.latest in let small : i < max_pins = fit.latest in let g : ℕ = get_or s.words 0 0 in let gate = r.written.gate_is in
-    let K : ℕ = max_pins * v.number + i in let x : Hold = get_or v.holds i Free in let h : Hold = confirmed_from g x in let was : x ≡ p.hold K = fit.holds i small in let w : PlaceView = confirming v g in
+    let K : ℕ = max_pins * v.number + i in let x : Hold = get_or v.holds i Free in let h : Hold = confirmed_from g x in let was : x ≡ p.hold K = fit.holds i small in let w : PlaceView = with_confirmation v g in
     let cut = r.sound.cut_gate in let low = r.sound.low_gate in let given = fit.numbered in
     let under : (m : ℕ) → m ≤ g → Below m (p.hold K) → Below m h = λ m le b. judged_below m g x le (subst (Below m) (sym was) b) in
     let low_below : K < p.scanned → Below p.low h = λ l. under p.low (omega arith) (r.sound.low_pins K l) in (
@@ -176,7 +176,7 @@ confirms passes slots id me v is s r _ at _ =
       unmoved passes s r (pinned_account p v.number i h v.announced) 0 id me.0 (Pins w) at (same_word passes p v.number i h v.announced s.words (judged_word g x ∙ ap word_of was) r.written)
           (sound_pinned p v.number i h v.announced small given (under p.cut (omega arith) (r.sound.cut_pins K)) low_below (judged_listed v.announced g x (subst (Listed v.announced) (sym was) (hold_listed p id v i small r.sound fit))) (said_same p id v fit) r.sound)
           r.few (placed_here p id i h v.announced g i v small small (omega arith) fit) (λ j u other f. pinned_else p v.number i h v.announced j u small (λ e. other (sym e ∙ fit.mine)) (said_same p id v fit) f),
-      λ v' is'. let same : Pins v ≡ Pins v' = sym is ∙ is' in let vv : v ≡ v' = cc in ap (λ (z : PlaceView). with_view (Pins (confirming z g)) me) vv,
+      λ v' is'. let same : Pins v ≡ Pins v' = sym is ∙ is' in let vv : v ≡ v' = cc in ap (λ (z : PlaceView). with_view (Pins (with_confirmation z g)) me) vv,
     )
 
 -- a place may withdraw

@@ -6,7 +6,7 @@ use Rattle.std.proofs.Common.{ℕ, ◌≤◌, arith, List, [], ◌∷◌, ◌≢
 use Rattle.jf_path.specs.Limits.{max_pins}
 use Rattle.atomic_table.specs.Table.{step, keeps, Allows}
 use Rattle.jf_board.specs.Rule.{Account, PlaceFits, JoinedFit, ViewFits, IsWritten, IsBoard, Below, least, word_of, lower, Has, Listed}
-use Rattle.jf_board.specs.Steps.{LoadsPinWord, raising, gate_raised, BoardSeat, cut_made, JoinedHold, BelowJoined, scanning}
+use Rattle.jf_board.specs.Steps.{LoadsPinWord, with_gate, gate_raised, BoardSeat, cut_made, JoinedHold, BelowJoined, with_loaded_word}
 use Rattle.jf_board.specs.declared.views.PlaceView.{PlaceView}
 use Rattle.jf_board.specs.declared.views.View.{View}
 use Rattle.jf_board.specs.declared.views.View.TheVariants.{Pins, Prunes, Spent}
@@ -48,7 +48,7 @@ written_gate passes p ws gate low scanned r = let wide = r.wide in record {
 -- the pruner may raise the gate
 pub raises : (passes slots id gate : ℕ) (me : BoardSeat) (q : PrunerView) → me.0 ≡ Prunes q → q.gate ≤ gate → Allows (IsBoard passes) slots id me 0 (λ _. gate) (λ _. gate_raised (step slots 0 gate 0 none) me gate)
 raises passes slots id gate me q is up s r _ at _ =
-    let fit = pruner_at passes s r id me.0 q is at in let p = r.account in let was = fit.gate_is in let w : PrunerView = raising q gate in let cut = r.sound.cut_gate in (
+    let fit = pruner_at passes s r id me.0 q is at in let p = r.account in let was = fit.gate_is in let w : PrunerView = with_gate q gate in let cut = r.sound.cut_gate in (
       Prunes w,
       keeps,
       tt,
@@ -56,7 +56,7 @@ raises passes slots id gate me q is up s r _ at _ =
           record { cut_gate = omega arith; cut_pins = r.sound.cut_pins; low_gate = le_refl gate; low_pins = λ k l. absurd (omega arith); unnumbered = r.sound.unnumbered; no_versions = r.sound.no_versions; listed = r.sound.listed } r.few
           record { alone = fit.alone; count_is = fit.count_is; gate_is = refl; cut_is = fit.cut_is; low_is = refl; scanned_is = refl; pairs = fit.pairs; joined = joined_paced p gate p.cut gate 0 id q.joined (omega arith) fit.joined }
           (λ j u other f. paced_else p gate p.cut gate 0 j u (omega arith) (λ e. other (e ∙ sym fit.alone)) f),
-      λ q' is'. let same : Prunes q ≡ Prunes q' = sym is ∙ is' in let qq : q ≡ q' = cc in ap (λ (z : PrunerView). with_view (Prunes (raising z gate)) me) qq,
+      λ q' is'. let same : Prunes q ≡ Prunes q' = sym is ∙ is' in let qq : q ≡ q' = cc in ap (λ (z : PrunerView). with_view (Prunes (with_gate z gate)) me) qq,
     )
 
 -- the words after a new cut is set
@@ -126,7 +126,7 @@ below_joined p id m (g ∷ gs) low r = ((λ i small. subst (Below m) (sym (r.0.h
 -- the pruner may load the next pin word
 pub scans : (passes slots id k : ℕ) (me : BoardSeat) (q : PrunerView) → me.0 ≡ Prunes q → length q.loaded ≡ k → k < max_pins * passes → Allows (IsBoard passes) slots id me (k + 3) (λ x. x) (LoadsPinWord (step slots (k + 3) 0 0 none) me)
 scans passes slots id k me q is long inside s r _ at _ =
-    let fit = pruner_at passes s r id me.0 q is at in let p = r.account in let x : ℕ = get_or s.words (k + 3) 0 in let w : PrunerView = scanning q k x in
+    let fit = pruner_at passes s r id me.0 q is at in let p = r.account in let x : ℕ = get_or s.words (k + 3) 0 in let w : PrunerView = with_loaded_word q k x in
     let found : x ≡ word_of (p.hold k) = r.written.pins_are k inside in let low : ℕ = lower p.low x in let less = lower_le p.low x in let low_gate = r.sound.low_gate in let at_k : p.scanned ≡ k = sym fit.scanned_is ∙ long in (
       Prunes w,
       keeps,
@@ -153,5 +153,5 @@ scans passes slots id k me q is long inside s r _ at _ =
           }
           (λ j u other f. paced_else p p.gate p.cut low (k + 1) j u (le_refl p.gate) (λ e. other (e ∙ sym fit.alone)) f),
       λ q' k' is' word. let same : Prunes q ≡ Prunes q' = sym is ∙ is' in let qq : q ≡ q' = cc in let kk : k ≡ k' = omega arith in
-          subst (λ (z : PrunerView × ℕ). (with_view (Prunes w) me ≡ with_view (Prunes (scanning z.0 z.1 x)) me) × JoinedHold z.0.joined z.1 x × BelowJoined z.0.cut z.0.joined) (λ i. (qq i, kk i)) (refl, joined_hold p id k x q.joined found fit.joined, below_joined p id q.cut q.joined (λ j. subst (λ (z : ℕ). Below z (p.hold j)) (sym fit.cut_is) (r.sound.cut_pins j)) fit.joined),
+          subst (λ (z : PrunerView × ℕ). (with_view (Prunes w) me ≡ with_view (Prunes (with_loaded_word z.0 z.1 x)) me) × JoinedHold z.0.joined z.1 x × BelowJoined z.0.cut z.0.joined) (λ i. (qq i, kk i)) (refl, joined_hold p id k x q.joined found fit.joined, below_joined p id q.cut q.joined (λ j. subst (λ (z : ℕ). Below z (p.hold j)) (sym fit.cut_is) (r.sound.cut_pins j)) fit.joined),
     )

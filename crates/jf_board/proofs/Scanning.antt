@@ -8,7 +8,7 @@ use Rattle.atomic_table.proofs.Lists.{at_longer, at_last}
 use Rattle.jf_board.specs.declared.scan.Held.{Held}
 use Rattle.jf_board.specs.declared.views.PrunerView.{PrunerView}
 use Rattle.jf_board.specs.Rule.{Has, Below, lower, least, word_of, hold_at}
-use Rattle.jf_board.specs.Steps.{scanning, JoinedHold, BelowJoined, with_own, without_own}
+use Rattle.jf_board.specs.Steps.{with_loaded_word, JoinedHold, BelowJoined, with_own, without_own}
 use Rattle.jf_board.specs.Scans.{IsHeld, Scans}
 use Rattle.jf_board.specs.declared.views.Hold.{Hold}
 use Rattle.jf_board.specs.declared.views.PlaceView.{PlaceView}
@@ -55,15 +55,15 @@ lower_left : (m w : ℕ) → (0 < w → m ≤ w - 1) → lower m w ≡ m
 lower_left m w a = grind (arith, nat_tests)
 
 -- a load forgets no pair
-pairs_grows : (q : PrunerView) (k word : ℕ) (t : ℕ × ℕ) → Has q.pairs t → Has (scanning q k word).pairs t
+pairs_grows : (q : PrunerView) (k word : ℕ) (t : ℕ × ℕ) → Has q.pairs t → Has (with_loaded_word q k word).pairs t
 pairs_grows q k word t has = elim (eqb word 0) as (λ b. Has (cond b q.pairs (q.pairs ++ (k / max_pins, word - 1) ∷ [])) t) [ true ↦ has | false ↦ (has.0, at_longer q.pairs ((k / max_pins, word - 1) ∷ []) has.0 t has.1) ]
 
 -- a load of a word that isn't 0 adds the word's pair
-pairs_new : (q : PrunerView) (k word : ℕ) → word ≢ 0 → Has (scanning q k word).pairs (k / max_pins, word - 1)
+pairs_new : (q : PrunerView) (k word : ℕ) → word ≢ 0 → Has (with_loaded_word q k word).pairs (k / max_pins, word - 1)
 pairs_new q k word n = let t : ℕ × ℕ = (k / max_pins, word - 1) in subst (λ b. Has (cond b q.pairs (q.pairs ++ t ∷ [])) t) (sym (ne_eqb word 0 n)) (length q.pairs, at_last q.pairs t (length q.pairs) refl)
 
 -- a scan after one more pin word, whatever it is
-scans_next : (p q : PrunerView) (k low word low' : ℕ) (held held' : Option Held) → Scans p q k low held → JoinedHold q.joined k word → BelowJoined q.cut q.joined → low' ≡ lower low word → IsHeld (scanning q k word) low' held' → Scans p (scanning q k word) (k + 1) low' held'
+scans_next : (p q : PrunerView) (k low word low' : ℕ) (held held' : Option Held) → Scans p q k low held → JoinedHold q.joined k word → BelowJoined q.cut q.joined → low' ≡ lower low word → IsHeld (with_loaded_word q k word) low' held' → Scans p (with_loaded_word q k word) (k + 1) low' held'
 scans_next p q k low word low' held held' s says under is found = let long = s.long in record {
   gate = s.gate;
   cut = s.cut;
@@ -79,7 +79,7 @@ scans_next p q k low word low' held held' s says under is found = let long = s.l
 }
 
 -- the word that gave the low still gives it after one more load
-still_held : (q : PrunerView) (k low word : ℕ) (held : Option Held) → IsHeld q low held → IsHeld (scanning q k word) low held
+still_held : (q : PrunerView) (k low word : ℕ) (held : Option Held) → IsHeld q low held → IsHeld (with_loaded_word q k word) low held
 still_held q k low word None h = h
 still_held q k low word (Some x) h = let inside = h.inside in record {
   low = h.low;
@@ -96,7 +96,7 @@ abbrev pub held_now : ℕ → ℕ → Held
 held_now k word = record { owner = k / max_pins; place = k % max_pins; version = word - 1 }
 
 -- a scan after one more word that is below the low
-pub scans_lower : (p q q' : PrunerView) (k low word : ℕ) (held : Option Held) → Scans p q k low held → JoinedHold q.joined k word → BelowJoined q.cut q.joined → q' ≡ scanning q k word → 0 < word → word - 1 < low → Scans p q' (k + 1) (word - 1) (Some (held_now k word))
+pub scans_lower : (p q q' : PrunerView) (k low word : ℕ) (held : Option Held) → Scans p q k low held → JoinedHold q.joined k word → BelowJoined q.cut q.joined → q' ≡ with_loaded_word q k word → 0 < word → word - 1 < low → Scans p q' (k + 1) (word - 1) (Some (held_now k word))
 scans_lower p q q' k low word held s says under e some_word less = let long = s.long in let low_is = s.low_is in let le = least_le q.gate q.loaded in let here : max_pins * (k / max_pins) + k % max_pins ≡ k = omega arith in
     subst (λ (z : PrunerView). Scans p z (k + 1) (word - 1) (Some (held_now k word))) (sym e)
     (scans_next p q k low word (word - 1) held (Some (held_now k word)) s says under (sym (lower_taken low word some_word less))
@@ -111,7 +111,7 @@ scans_lower p q q' k low word held s says under e some_word less = let long = s.
     })
 
 -- a scan after one more word that is not below the low
-pub scans_same : (p q q' : PrunerView) (k low word : ℕ) (held : Option Held) → Scans p q k low held → JoinedHold q.joined k word → BelowJoined q.cut q.joined → q' ≡ scanning q k word → (0 < word → low ≤ word - 1) → Scans p q' (k + 1) low held
+pub scans_same : (p q q' : PrunerView) (k low word : ℕ) (held : Option Held) → Scans p q k low held → JoinedHold q.joined k word → BelowJoined q.cut q.joined → q' ≡ with_loaded_word q k word → (0 < word → low ≤ word - 1) → Scans p q' (k + 1) low held
 scans_same p q q' k low word held s says under e more =
     subst (λ (z : PrunerView). Scans p z (k + 1) low held) (sym e) (scans_next p q k low word low held held s says under (sym (lower_left low word more)) (still_held q k low word held s.held_is))
 

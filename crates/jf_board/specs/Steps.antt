@@ -27,8 +27,8 @@ abbrev pub with_hold : PlaceView → ℕ → Hold → PlaceView
 with_hold v i h = record v { holds = slice_set v.holds i h }
 
 -- the place announces the version at i
-abbrev pub announcing : PlaceView → ℕ → ℕ → PlaceView
-announcing v i version = record v { latest = i; holds = slice_set v.holds i (Announced version); announced = v.announced ++ version ∷ [] }
+abbrev pub with_announcement : PlaceView → ℕ → ℕ → PlaceView
+with_announcement v i version = record v { latest = i; holds = slice_set v.holds i (Announced version); announced = v.announced ++ version ∷ [] }
 
 -- an announced version is confirmed if the gate is at most it
 abbrev pub confirmed_from : ℕ → Hold → Hold
@@ -37,20 +37,20 @@ confirmed_from gate (Announced version) = cond (leb gate version) (Confirmed ver
 confirmed_from gate (Confirmed version) = Confirmed version
 
 -- the place loads the gate: what it announced last is confirmed if the gate is at most it
-abbrev pub confirming : PlaceView → ℕ → PlaceView
-confirming v gate = record v { gate = gate; holds = slice_set v.holds v.latest (confirmed_from gate (hold_at v v.latest)) }
+abbrev pub with_confirmation : PlaceView → ℕ → PlaceView
+with_confirmation v gate = record v { gate = gate; holds = slice_set v.holds v.latest (confirmed_from gate (hold_at v v.latest)) }
 
 -- the pruner sets the gate, and no pin word counts as loaded any more
-abbrev pub raising : PrunerView → ℕ → PrunerView
-raising q gate = record q { gate = gate; loaded = [] }
+abbrev pub with_gate : PrunerView → ℕ → PrunerView
+with_gate q gate = record q { gate = gate; loaded = [] }
 
 -- the pruner gives one more number, to a place that is then joined to it
-abbrev pub numbering : PrunerView → PrunerView
-numbering q = record q { count = q.count + 1; joined = newly_numbered q.count ∷ q.joined }
+abbrev pub with_number_given : PrunerView → PrunerView
+with_number_given q = record q { count = q.count + 1; joined = newly_numbered q.count ∷ q.joined }
 
 -- the pruner loads the pin word k, the next one
-abbrev pub scanning : PrunerView → ℕ → ℕ → PrunerView
-scanning q k word = record q { loaded = q.loaded ++ word ∷ []; pairs = cond (word == 0) q.pairs (q.pairs ++ (k / max_pins, word - 1) ∷ []) }
+abbrev pub with_loaded_word : PrunerView → ℕ → ℕ → PrunerView
+with_loaded_word q k word = record q { loaded = q.loaded ++ word ∷ []; pairs = cond (word == 0) q.pairs (q.pairs ++ (k / max_pins, word - 1) ∷ []) }
 
 -- a place joins for a scan, before any pin word is loaded
 abbrev pub with_own : PrunerView → PlaceView → PrunerView
@@ -85,15 +85,15 @@ JoinedAnnounced pairs (v ∷ vs) = ((version : ℕ) → Has pairs (v.number, ver
 
 -- the number is the old count
 abbrev pub TakesNumber : TableStep → BoardSeat → ℕ → BoardSeat → Type 0
-TakesNumber st m r m' = (q : PrunerView) → m.0 ≡ Prunes q → (r ≡ q.count) × (m' ≡ (Prunes (numbering q), m.1))
+TakesNumber st m r m' = (q : PrunerView) → m.0 ≡ Prunes q → (r ≡ q.count) × (m' ≡ (Prunes (with_number_given q), m.1))
 
 -- the word of the place i goes from 0 to version + 1
 abbrev pub AnnouncesVersion : TableStep → BoardSeat → ℕ → BoardSeat → Type 0
-AnnouncesVersion st m r m' = (v : PlaceView) (i version : ℕ) → m.0 ≡ Pins v → st.word ≡ max_pins * v.number + i + 3 → st.first ≡ version + 1 → m' ≡ (Pins (announcing v i version), m.1)
+AnnouncesVersion st m r m' = (v : PlaceView) (i version : ℕ) → m.0 ≡ Pins v → st.word ≡ max_pins * v.number + i + 3 → st.first ≡ version + 1 → m' ≡ (Pins (with_announcement v i version), m.1)
 
 -- the gate is loaded
 abbrev pub LoadsGate : TableStep → BoardSeat → ℕ → BoardSeat → Type 0
-LoadsGate st m r m' = (v : PlaceView) → m.0 ≡ Pins v → m' ≡ (Pins (confirming v r), m.1)
+LoadsGate st m r m' = (v : PlaceView) → m.0 ≡ Pins v → m' ≡ (Pins (with_confirmation v r), m.1)
 
 -- the word of the place i goes to 0
 abbrev pub WithdrawsVersion : TableStep → BoardSeat → ℕ → BoardSeat → Type 0
@@ -101,11 +101,11 @@ WithdrawsVersion st m r m' = (v : PlaceView) (i : ℕ) → m.0 ≡ Pins v → st
 
 -- the gate word is set
 abbrev pub gate_raised : TableStep → BoardSeat → ℕ → BoardSeat → Type 0
-gate_raised st m r m' = (q : PrunerView) → m.0 ≡ Prunes q → m' ≡ (Prunes (raising q st.first), m.1)
+gate_raised st m r m' = (q : PrunerView) → m.0 ≡ Prunes q → m' ≡ (Prunes (with_gate q st.first), m.1)
 
 -- the next pin word is loaded; the cut is at most what joined places have confirmed
 abbrev pub LoadsPinWord : TableStep → BoardSeat → ℕ → BoardSeat → Type 0
-LoadsPinWord st m r m' = (q : PrunerView) (k : ℕ) → m.0 ≡ Prunes q → st.word ≡ k + 3 → (m' ≡ (Prunes (scanning q k r), m.1)) × JoinedHold q.joined k r × BelowJoined q.cut q.joined
+LoadsPinWord st m r m' = (q : PrunerView) (k : ℕ) → m.0 ≡ Prunes q → st.word ≡ k + 3 → (m' ≡ (Prunes (with_loaded_word q k r), m.1)) × JoinedHold q.joined k r × BelowJoined q.cut q.joined
 
 -- the cut word is set
 abbrev pub cut_made : TableStep → BoardSeat → ℕ → BoardSeat → Type 0

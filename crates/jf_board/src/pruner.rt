@@ -2,7 +2,7 @@
 ghost use Rattle.std.specs.Prelude.{◌≡◌, ℕ, ◌+◌, ◌-◌, ◌*◌, ◌<◌, ◌≤◌, ◌∷◌, [], slice_index, max};
 ghost use Rattle.jf_path.specs.Limits.{max_pins};
 ghost use Rattle.jf_board.specs.Rule.{low_of, word_of, hold_at, Below, Has};
-ghost use Rattle.jf_board.specs.Steps.{raising, NumbersAreGiven, with_joined};
+ghost use Rattle.jf_board.specs.Steps.{with_gate, NumbersAreGiven, with_joined};
 ghost use Rattle.jf_board.specs.Scans.{IsHeld};
 ghost use Rattle.jf_board.specs.States.{SameButScan, HasScanned};
 
@@ -49,7 +49,7 @@ impl Pruner {
     pub fn raise(&mut self, board: &Board, gate: u64)
         requires own { self.old.board ≡ board.now }
         requires up { self.old.known.gate ≤ gate }
-        ensures { (self.new.board ≡ self.old.board) × (self.new.known ≡ raising self.old.known gate) }
+        ensures { (self.new.board ≡ self.old.board) × (self.new.known ≡ with_gate self.old.known gate) }
     {
         steps::raise(board, &mut self.seat, gate);
         self.gate = gate;

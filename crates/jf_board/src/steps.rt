@@ -4,7 +4,7 @@ ghost use Rattle.jf_path.specs.Limits.{max_pins, max_sessions};
 ghost use Rattle.jf_board.specs.declared.views.Hold.TheVariants.{Free};
 ghost use Rattle.jf_board.specs.declared.views.View.TheVariants.{Pins, Prunes, Spent};
 ghost use Rattle.jf_board.specs.Rule.{least};
-ghost use Rattle.jf_board.specs.Steps.{announcing, confirming, with_hold, raising, numbering, scanning, JoinedHold, JoinedAnnounced, BelowJoined, NumbersAreGiven, with_own, with_joined, without_own};
+ghost use Rattle.jf_board.specs.Steps.{with_announcement, with_confirmation, with_hold, with_gate, with_number_given, with_loaded_word, JoinedHold, JoinedAnnounced, BelowJoined, NumbersAreGiven, with_own, with_joined, without_own};
 ghost use Rattle.jf_board.specs.States.{place_of, pruner_of, IsPlaceSeat, IsPruner};
 
 use crate::board::Board;
@@ -28,7 +28,7 @@ pub(crate) fn announce(
     requires place { IsPlaceSeat seat.old number × (place < max_pins) }
     requires room { (max_pins * number + max_pins + 3 ≤ board.now.words) × (number < max_sessions) }
     requires version { version < 2 ^ 64 - 1 }
-    ensures { (seat.new.table_id ≡ seat.old.table_id) × (seat.new.me ≡ (Pins (announcing (place_of seat.old.me.0) place version), [])) }
+    ensures { (seat.new.table_id ≡ seat.old.table_id) × (seat.new.me ≡ (Pins (with_announcement (place_of seat.old.me.0) place version), [])) }
 {
     let word = (MAX_PINS * number) as usize + place + 3;
     board
@@ -52,7 +52,7 @@ pub(crate) fn withdraw(board: &Board, seat: &mut Seat<(), View>, number: u64, pl
 pub(crate) fn confirm(board: &Board, seat: &mut Seat<(), View>) -> u64
     requires own { seat.old.table_id ≡ board.now }
     requires place { IsPlaceSeat seat.old (place_of seat.old.me.0).number }
-    ensures { (seat.new.table_id ≡ seat.old.table_id) × (seat.new.me ≡ (Pins (confirming (place_of seat.old.me.0) result), [])) }
+    ensures { (seat.new.table_id ≡ seat.old.table_id) × (seat.new.me ≡ (Pins (with_confirmation (place_of seat.old.me.0) result), [])) }
 {
     board.table.shared.load::<Confirm>(seat, 0)
 }
@@ -62,7 +62,7 @@ pub(crate) fn raise(board: &Board, seat: &mut Seat<(), View>, gate: u64)
     requires own { seat.old.table_id ≡ board.now }
     requires pruner { IsPruner seat.old }
     requires up { (pruner_of seat.old.me.0).gate ≤ gate }
-    ensures { (seat.new.table_id ≡ seat.old.table_id) × (seat.new.me ≡ (Prunes (raising (pruner_of seat.old.me.0) gate), [])) }
+    ensures { (seat.new.table_id ≡ seat.old.table_id) × (seat.new.me ≡ (Prunes (with_gate (pruner_of seat.old.me.0) gate), [])) }
 {
     board.table.shared.store::<Raise>(seat, 0, gate);
 }
@@ -83,7 +83,7 @@ pub(crate) fn number(board: &Board, seat: &mut Seat<(), View>) -> u64
     requires own { seat.old.table_id ≡ board.now }
     requires pruner { IsPruner seat.old }
     requires room { max_pins * (pruner_of seat.old.me.0).count + max_pins + 3 ≤ board.now.words }
-    ensures seat { (seat.new.table_id ≡ seat.old.table_id) × (seat.new.me ≡ (Prunes (numbering (pruner_of seat.old.me.0)), [])) }
+    ensures seat { (seat.new.table_id ≡ seat.old.table_id) × (seat.new.me ≡ (Prunes (with_number_given (pruner_of seat.old.me.0)), [])) }
     ensures number { result ≡ (pruner_of seat.old.me.0).count }
 {
     board.table.shared.fetch_add::<Number>(seat, 2, 1)
@@ -94,7 +94,7 @@ pub(crate) fn load_pin(board: &Board, seat: &mut Seat<(), View>, k: usize) -> u6
     requires own { seat.old.table_id ≡ board.now }
     requires pruner { IsPruner seat.old }
     requires next { (length (pruner_of seat.old.me.0).loaded ≡ k) × (k + 3 < board.now.words) }
-    ensures seat { (seat.new.table_id ≡ seat.old.table_id) × (seat.new.me ≡ (Prunes (scanning (pruner_of seat.old.me.0) k result), [])) }
+    ensures seat { (seat.new.table_id ≡ seat.old.table_id) × (seat.new.me ≡ (Prunes (with_loaded_word (pruner_of seat.old.me.0) k result), [])) }
     ensures joined { JoinedHold (pruner_of seat.old.me.0).joined k result }
     ensures below { BelowJoined (pruner_of seat.old.me.0).cut (pruner_of seat.old.me.0).joined }
 {

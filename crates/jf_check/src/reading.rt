@@ -18,7 +18,7 @@ pub(crate) struct DiskFiles {
 // The bytes of the files on both sides of a disk. Of a side that is missing nothing is read.
 pub(crate) fn files_of<D: Disk>(alloc: Global, disk: &mut D) -> Result<DiskFiles, Unchecked>
     ensures found { IfOk result (λ f. AreFilesOf (D.missing disk.old) (D.history disk.old) (option_map (λ v. v.items) f.a) (option_map (λ v. v.items) f.b)) }
-    ensures unwritten { result ≢ Err Unchecked.WriteFault }
+    ensures unstopped { result ≢ Err Unchecked.WriteFault }
     ensures idle { (h : History) → D.history disk.old ≡ Some h → (g : History) × (D.history disk.new ≡ Some g) × Idles h g }
     ensures calls { CallsOn (D.history disk.old) (D.moment disk.old) (D.faults disk.old) (D.history disk.new) (D.moment disk.new) (D.faults disk.new) (result ≡ Err Unchecked.DiskFault) }
     ensures calm { result ≢ Err Unchecked.DiskFault → D.faults disk.new ≡ D.faults disk.old }
@@ -39,7 +39,7 @@ fn file_on<D: Disk>(
     missing: bool,
 ) -> Result<Option<Vec<u8>>, Unchecked>
     ensures found { IfOk result (λ f. IsFileOf (D.history disk.old) side missing (option_map (λ v. v.items) f)) }
-    ensures unwritten { result ≢ Err Unchecked.WriteFault }
+    ensures unstopped { result ≢ Err Unchecked.WriteFault }
     ensures idle { (h : History) → D.history disk.old ≡ Some h → (g : History) × (D.history disk.new ≡ Some g) × Idles h g }
     ensures calls { CallsOn (D.history disk.old) (D.moment disk.old) (D.faults disk.old) (D.history disk.new) (D.moment disk.new) (D.faults disk.new) (result ≡ Err Unchecked.DiskFault) }
     ensures calm { result ≢ Err Unchecked.DiskFault → D.faults disk.new ≡ D.faults disk.old }
@@ -54,7 +54,7 @@ fn file_on<D: Disk>(
 // All bytes of a side. The memory for them is taken before the read.
 fn bytes_on<D: Disk>(alloc: Global, disk: &mut D, side: Side) -> Result<Vec<u8>, Unchecked>
     ensures bytes { (h : History) → D.history disk.old ≡ Some h → IfOk result (λ v. v.items ≡ (content_on side h.now).bytes) }
-    ensures unwritten { result ≢ Err Unchecked.WriteFault }
+    ensures unstopped { result ≢ Err Unchecked.WriteFault }
     ensures idle { (h : History) → D.history disk.old ≡ Some h → (g : History) × (D.history disk.new ≡ Some g) × Idles h g }
     ensures calls { CallsOn (D.history disk.old) (D.moment disk.old) (D.faults disk.old) (D.history disk.new) (D.moment disk.new) (D.faults disk.new) (result ≡ Err Unchecked.DiskFault) }
     ensures calm { result ≢ Err Unchecked.DiskFault → D.faults disk.new ≡ D.faults disk.old }

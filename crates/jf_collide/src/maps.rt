@@ -20,7 +20,7 @@ pub fn maps_collide(
 ) -> Result<Option<(Bytes, Bytes)>, Memory>
     requires first { T (is_sorted key_cmp first.now) }
     requires second { T (is_sorted key_cmp second.now) }
-    requires one_root { part_root 0 first.now ≡ part_root 0 second.now }
+    requires roots { part_root 0 first.now ≡ part_root 0 second.now }
     ensures { MatchResult result (IsMapsAnswer first.now second.now) (λ _. first.now ≢ second.now) }
 {
     let ours = first.as_slice();

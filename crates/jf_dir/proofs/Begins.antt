@@ -14,7 +14,7 @@ use Rattle.jf_walk.proofs.NodesListed.{nodes-exact}
 use Rattle.jf_node.specs.SnapshotValue.{SnapshotValue}
 use Rattle.jf_node.specs.Snapshots.{snapshot_version_at, IsSnapshot}
 use Rattle.jf_diff.specs.Landings.{version_in, version_or}
-use Rattle.jf_standing.specs.Named.{Named, never, leaf_entry, leaf_entries, AreEntries, map_at, version_at}
+use Rattle.jf_standing.specs.Named.{Named, not_stale, leaf_entry, leaf_entries, AreEntries, map_at, version_at}
 use Rattle.jf_standing.specs.Standing.{Standing}
 use Rattle.jf_standing.specs.Sound.{IsSound}
 use Rattle.jf_standing.specs.Building.{floor_standing, nodes_by_name, node_of}
@@ -30,7 +30,7 @@ use Rattle.jf_dir.specs.Directories.{begun_with}
 use Rattle.jf_dir.specs.Holding.{AreMarksOf, IsStandingHeld}
 use Rattle.jf_dir.proofs.MarkMoves.{mark-which}
 
-module _ (base : ℕ) (earlier : List (List ℕ)) (x : SnapshotValue) (snap : IsSnapshot x) (hashes : AllByRecursion IsKey (root x.map ∷ reverse earlier)) (numbered : base + length earlier ≡ x.version) (last : x.version < never) (room : len x.map ≤ 2 ^ 63) where
+module _ (base : ℕ) (earlier : List (List ℕ)) (x : SnapshotValue) (snap : IsSnapshot x) (hashes : AllByRecursion IsKey (root x.map ∷ reverse earlier)) (numbered : base + length earlier ≡ x.version) (last : x.version < not_stale) (room : len x.map ≤ 2 ^ 63) where
   abbrev floor_made : Standing
   floor_made = floor_standing format.Two base x.version (root x.map ∷ reverse earlier) x.map (version_in x)
 
@@ -87,7 +87,7 @@ module _ (base : ℕ) (earlier : List (List ℕ)) (x : SnapshotValue) (snap : Is
     λ has. absurd (
         let n = mark-which (begun_with base earlier x).nodes k has in
         let y = map-which (node_of format.Two (version_in x)) (nodes x.map) n.0 (came n.0 n.1) in
-        let since : never ≡ n.0.2 = ap (λ (z : Named). z.2) y.2 in
+        let since : not_stale ≡ n.0.2 = ap (λ (z : Named). z.2) y.2 in
         let high = n.2 in
         omega arith),
   )

@@ -11,7 +11,7 @@ use Rattle.jf_walk.proofs.NodesListed.{nodes-exact}
 use Rattle.jf_node.specs.SnapshotValue.{SnapshotValue}
 use Rattle.jf_diff.specs.Landings.{version_in}
 use Rattle.jf_stale.specs.Marks.{Mark}
-use Rattle.jf_standing.specs.Named.{Named, never, map_at, version_at}
+use Rattle.jf_standing.specs.Named.{Named, not_stale, map_at, version_at}
 use Rattle.jf_standing.specs.Standing.{Standing}
 use Rattle.jf_standing.specs.Building.{node_of, floor_standing, floor_of, built_standing, up_from, nodes_by_name}
 use Rattle.jf_standing.proofs.Alive.{plain_node-same}
@@ -28,7 +28,7 @@ nodes-alike m v w same = map_alike (node_of format.Two v) (node_of format.Two w)
     let plain : plain_node true (λ i. v (x.0 ++ i ∷ [])) (length x.0) x.1 ≡ plain_node true (λ i. w (x.0 ++ i ∷ [])) (length x.0) x.1 =
     plain_node-same true (λ i. v (x.0 ++ i ∷ [])) (λ i. w (x.0 ++ i ∷ [])) (length x.0) x.1 (λ i some.
     same (x.0 ++ i ∷ []) (child-node (entries m) x.0 i is.2 (ap (λ es. parts_at (length x.0) i es) (sym is.1) ∙ some))) in
-    ap₂ (λ (k : ℕ) (n : PlainNode). (record { version = k; path = x.0 }, n, never)) (same x.0 is.2) plain))
+    ap₂ (λ (k : ℕ) (n : PlainNode). (record { version = k; path = x.0 }, n, not_stale)) (same x.0 is.2) plain))
 
 -- the maps of snapshots are those of the standing
 pub maps-held : (s : Standing) (w : ℕ) (xs : List SnapshotValue) → AreSnapshotsFrom s w xs → map (λ v. map_at v s.nodes) (up_from w (length xs)) ≡ map (λ y. y.map) xs

@@ -23,7 +23,7 @@ use Rattle.jf_node.specs.Snapshots.{snapshot_of, IsSnapshot}
 use Rattle.jf_node.specs.declared.update.Update.{Update}
 use Rattle.jf_diff.specs.Landings.{version_in}
 use Rattle.jf_stale.specs.Marks.{Mark, AreAscendingMarks}
-use Rattle.jf_standing.specs.Named.{Named, never}
+use Rattle.jf_standing.specs.Named.{Named, not_stale}
 use Rattle.jf_standing.specs.Standing.{Standing, with_floor}
 use Rattle.jf_standing.specs.Sound.{IsSound}
 use Rattle.jf_standing.specs.Landing.{landing_of, version_after}
@@ -147,7 +147,7 @@ prune-held s b rs xs xs' ms ms' n floor count dropped h low high rest at up up' 
     (count-floored s floor count n ms ms' h.read (floored-read s floor low high h.read) (omega arith) up up' h.marks taken h.count))
 
 -- ---- one snapshot
-pub begun-held : (base : ℕ) (earlier : List (List ℕ)) (x : SnapshotValue) (r : List ℕ) (rs : List (List ℕ)) (none xs : List SnapshotValue) (ms : List Mark) (n : ℕ) → IsSnapshot x → AllByRecursion IsKey earlier → base + length earlier ≡ x.version → x.version < never → len x.map ≤ 2 ^ 63
+pub begun-held : (base : ℕ) (earlier : List (List ℕ)) (x : SnapshotValue) (r : List ℕ) (rs : List (List ℕ)) (none xs : List SnapshotValue) (ms : List Mark) (n : ℕ) → IsSnapshot x → AllByRecursion IsKey earlier → base + length earlier ≡ x.version → x.version < not_stale → len x.map ≤ 2 ^ 63
     → r ≡ root x.map → rs ≡ earlier ++ r ∷ [] → none ≡ [] → xs ≡ none ++ x ∷ [] → ms ≡ [] → n ≡ length (nodes x.map) → IsStandingHeld (begun_with base earlier x) base rs xs ms n
 begun-held base earlier x r rs none xs ms n snap keys numbered last room root_is rooted empty one unmarked_ count =
     let hashes : AllByRecursion IsKey (root x.map ∷ reverse earlier) = (root-IsKey x.map, All-each_element IsKey (reverse earlier) (λ k has. All-of IsKey earlier k keys (Contains-permutation (reverse earlier) earlier k (IsPermutation-sym earlier (reverse earlier) (IsPermutation-reverse earlier)) has))) in
@@ -165,7 +165,7 @@ len-empty_map = omega (arith, fin.len-entries none_map, ap length entries-empty)
 
 one_node : (v w : Path → ℕ) → v [] ≡ w [] → nodes_by_name (map (node_of format.Two v) (([], []) ∷ [])) ≡ nodes_by_name (map (node_of format.Two w) (([], []) ∷ []))
 unfolding plain_node
-one_node v w same = ap (λ (k : ℕ). (record { version = k; path = [] }, node.Null, never) ∷ []) same
+one_node v w same = ap (λ (k : ℕ). (record { version = k; path = [] }, node.Null, not_stale) ∷ []) same
 
 begun-nodes : (v w : Path → ℕ) → v [] ≡ w [] → nodes_by_name (map (node_of format.Two v) (nodes fin.empty)) ≡ map (node_of format.Two w) (nodes fin.empty)
 unfolding plain_node

@@ -25,7 +25,7 @@ use Rattle.jf_node.specs.Snapshots.{IsSnapshot, snapshot_version_at}
 use Rattle.jf_diff.specs.Gone.{IsLaterSnapshot, gone_node_in, gone_nodes}
 use Rattle.jf_diff.specs.Landings.{version_in, version_or}
 use Rattle.jf_standing.specs.Building.{apart, as_named, nodes_by_name}
-use Rattle.jf_standing.specs.Named.{Named, never, is_alive, is_at, is_stale, alive_at, stale_at, map_at, version_at}
+use Rattle.jf_standing.specs.Named.{Named, not_stale, is_alive, is_at, is_stale, alive_at, stale_at, map_at, version_at}
 use Rattle.jf_standing.specs.Next.{IsReadStanding}
 use Rattle.jf_standing.specs.Order.{by_name}
 use Rattle.jf_standing.specs.Sound.{IsSound}
@@ -161,16 +161,16 @@ module _ (s : Standing) (sound : IsSound format.Two s) where
         }
 
   -- ---- the nodes of the head
-  since_never : (n : Named) → Contains s.nodes n → s.head < n.2 → n.2 ≡ never
+  since_never : (n : Named) → Contains s.nodes n → s.head < n.2 → n.2 ≡ not_stale
   since_never n has late = elim (All-of _ s.nodes n sound.gone has) [ inl none ↦ none | inr within ↦ absurd (let top = within.1 in omega arith) ]
 
-  pub listed-head : (newest : SnapshotValue) (ns : List Named) → IsReadStanding s → IsSnapshotAt s s.head newest → ns ≡ map (gone_node_in newest never) (nodes newest.map) → AreListedTo s s.floor ns
+  pub listed-head : (newest : SnapshotValue) (ns : List Named) → IsReadStanding s → IsSnapshotAt s s.head newest → ns ≡ map (gone_node_in newest not_stale) (nodes newest.map) → AreListedTo s s.floor ns
   listed-head newest ns read at is =
       let low = sound.floor_low in
       let last = sound.head_last in
       record {
         own = λ n has.
-            let x = map-which (gone_node_in newest never) (nodes newest.map) n (subst (λ ms. Contains ms n) is has) in
+            let x = map-which (gone_node_in newest not_stale) (nodes newest.map) n (subst (λ ms. Contains ms n) is has) in
             let p = x.0.0 in
             let exact = (nodes-exact newest.map x.0).0 x.1 in
             let z = alive-there format.Two s sound s.head low (omega arith) p (subst (λ m. is_node 0 p (entries m) ≡ true) at.map exact.2) in
@@ -187,8 +187,8 @@ module _ (s : Standing) (sound : IsSound format.Two s) where
               let keys : IsMap newest.map = subst IsMap (sym at.map) (IsMap-map_at s.head s.nodes read.keys) in
               let same = same_gone s.head newest p n low (omega arith) at has alive refl node in
               subst (λ ms. Contains ms n) (sym is)
-              (subst (Contains (map (gone_node_in newest never) (nodes newest.map))) (sym (same ∙ ap (λ v. gone_node_in newest v (p, under 0 p (entries newest.map))) none))
-              (Contains-map (gone_node_in newest never) (nodes newest.map) (p, under 0 p (entries newest.map)) ((nodes-exact newest.map (p, under 0 p (entries newest.map))).1 (IsPath-is_node newest.map p keys node, refl, node))))
+              (subst (Contains (map (gone_node_in newest not_stale) (nodes newest.map))) (sym (same ∙ ap (λ v. gone_node_in newest v (p, under 0 p (entries newest.map))) none))
+              (Contains-map (gone_node_in newest not_stale) (nodes newest.map) (p, under 0 p (entries newest.map)) ((nodes-exact newest.map (p, under 0 p (entries newest.map))).1 (IsPath-is_node newest.map p keys node, refl, node))))
           | inr early ↦ absurd (let late = since-high format.Two s sound n has in omega arith)
         ];
       }

@@ -20,7 +20,7 @@ use Rattle.jf_path.proofs.ListLaws.{Contains-first, Contains-later, Contains-map
 use Rattle.jf_path.proofs.OrderLaws.{Equal-from_is_eq}
 use Rattle.jf_stale.specs.Marks.{Mark, mark_cmp, AreAscendingMarks}
 use Rattle.jf_stale.proofs.MarkLaws.{mark_cmp_total, mark_cmp-exact}
-use Rattle.jf_standing.specs.Named.{Named, never}
+use Rattle.jf_standing.specs.Named.{Named, not_stale}
 use Rattle.jf_standing.specs.Standing.{Standing, with_floor}
 use Rattle.jf_standing.specs.Next.{IsReadStanding}
 use Rattle.jf_standing.specs.Building.{apart}
@@ -105,11 +105,11 @@ length-marks ns ms rises ascending are =
 
 -- ---- a later floor
 -- a node that a floor drops is stale
-stale_early : (floor : ℕ) (n : Named) → floor < never → nat_lt floor n.2 ≡ false → is_stale_node n ≡ true
+stale_early : (floor : ℕ) (n : Named) → floor < not_stale → nat_lt floor n.2 ≡ false → is_stale_node n ≡ true
 stale_early floor n low early = grind (arith, nat_tests)
 
 -- the nodes that are not stale stay under a floor
-unstale_floored : (floor : ℕ) (ns : List Named) → floor < never → filter (λ n. not (is_stale_node n)) (filter (λ n. nat_lt floor n.2) ns) ≡ filter (λ n. not (is_stale_node n)) ns
+unstale_floored : (floor : ℕ) (ns : List Named) → floor < not_stale → filter (λ n. not (is_stale_node n)) (filter (λ n. nat_lt floor n.2) ns) ≡ filter (λ n. not (is_stale_node n)) ns
 unstale_floored floor [] low = refl
 unstale_floored floor (n ∷ ns) low =
     let rest = unstale_floored floor ns low in
@@ -119,7 +119,7 @@ unstale_floored floor (n ∷ ns) low =
     ] refl
 
 -- a later floor drops as many nodes as it takes marks
-pub count-floored : (s : Standing) (floor count n : ℕ) (ms ms' : List Mark) → IsReadStanding s → IsReadStanding (with_floor floor s) → floor < never → AreAscendingMarks ms → AreAscendingMarks ms' → AreMarksOf s.nodes ms → AreTakenUpto floor count ms ms' → n ≡ length s.nodes
+pub count-floored : (s : Standing) (floor count n : ℕ) (ms ms' : List Mark) → IsReadStanding s → IsReadStanding (with_floor floor s) → floor < not_stale → AreAscendingMarks ms → AreAscendingMarks ms' → AreMarksOf s.nodes ms → AreTakenUpto floor count ms ms' → n ≡ length s.nodes
     → n - count ≡ length (with_floor floor s).nodes
 count-floored s floor count n ms ms' read read' low up up' are taken is =
     let ns = s.nodes in

@@ -9,7 +9,7 @@ use Rattle.jf_hash.specs.Maps.{Map, IsMap}
 use Rattle.jf_codec.specs.declared.format.Format.TheVariants as format
 use Rattle.jf_stale.specs.Marks.{Mark}
 use Rattle.jf_payload.specs.declared.records.Commit.{Commit}
-use Rattle.jf_standing.specs.Named.{Named, never}
+use Rattle.jf_standing.specs.Named.{Named, not_stale}
 use Rattle.jf_standing.specs.Standing.{Standing, with_floor, is_named}
 use Rattle.jf_standing.specs.Sound.{IsSound}
 use Rattle.jf_standing.specs.Landing.{landing_of, head_map}
@@ -28,13 +28,13 @@ abbrev mark_of : Named → Mark
 mark_of n = (n.2, n.0)
 
 -- ---- nodes and their marks
-pub mark-which : (ns : List Named) (k : Mark) → Contains (marks_of ns) k → (n : Named) × Contains ns n × (n.2 < never) × (mark_of n ≡ k)
+pub mark-which : (ns : List Named) (k : Mark) → Contains (marks_of ns) k → (n : Named) × Contains ns n × (n.2 < not_stale) × (mark_of n ≡ k)
 mark-which ns k has =
     let n = map-which mark_of (filter is_stale_node ns) k has in
-    (n.0, filter-Contains is_stale_node ns n.0 n.1, lt_tells n.0.2 never (filter-passes is_stale_node ns n.0 n.1), n.2)
+    (n.0, filter-Contains is_stale_node ns n.0 n.1, lt_tells n.0.2 not_stale (filter-passes is_stale_node ns n.0 n.1), n.2)
 
-pub mark-so : (ns : List Named) (n : Named) → Contains ns n → n.2 < never → Contains (marks_of ns) (mark_of n)
-mark-so ns n has low = Contains-map mark_of (filter is_stale_node ns) n (Contains-filter is_stale_node ns n has (lt_so n.2 never low))
+pub mark-so : (ns : List Named) (n : Named) → Contains ns n → n.2 < not_stale → Contains (marks_of ns) (mark_of n)
+mark-so ns n has low = Contains-map mark_of (filter is_stale_node ns) n (Contains-filter is_stale_node ns n has (lt_so n.2 not_stale low))
 
 -- a mark's version is at most the head
 pub mark-low : (s : Standing) → IsSound format.Two s → (k : Mark) → Contains (marks_of s.nodes) k → k.0 ≤ s.head
@@ -45,7 +45,7 @@ mark-low s sound k has =
     elim (All-of _ s.nodes n.0 sound.gone n.1) [ inl none ↦ absurd (omega arith) | inr late ↦ let up = late.1 in omega arith ]
 
 -- ---- a landing
-module _ (s : Standing) (m : Map) (sound : IsSound format.Two s) (keys : IsMap (head_map s)) (own_keys : IsMap m) (last : s.head + 1 < never) where
+module _ (s : Standing) (m : Map) (sound : IsSound format.Two s) (keys : IsMap (head_map s)) (own_keys : IsMap m) (last : s.head + 1 < not_stale) where
   abbrev landing : Commit
   landing = landing_of format.Two s m
 
@@ -65,7 +65,7 @@ module _ (s : Standing) (m : Map) (sound : IsSound format.Two s) (keys : IsMap (
             let is : b ≡ n.0 = sym (marked-not landing b free) ∙ same in
             inl (subst (Contains (marks_of s.nodes)) n.3 (mark-so s.nodes n.0 (subst (Contains s.nodes) is stood) low))
       ] refl)
-      (λ x own same. absurd (let at : never ≡ n.0.2 = ap (λ (z : Named). z.2) same in omega arith))
+      (λ x own same. absurd (let at : not_stale ≡ n.0.2 = ap (λ (z : Named). z.2) same in omega arith))
 
   pub mark-stood : (k : Mark) → Contains (marks_of s.nodes) k → Contains (marks_of after) k
   mark-stood k has =

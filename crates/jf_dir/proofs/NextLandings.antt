@@ -15,7 +15,7 @@ use Rattle.jf_node.specs.SnapshotValue.{SnapshotValue}
 use Rattle.jf_node.specs.Snapshots.{snapshot_version_at}
 use Rattle.jf_node.specs.declared.update.Update.{Update}
 use Rattle.jf_diff.specs.Landings.{IsNextSnapshot, version_in, version_or, written_nodes, stale_names_in}
-use Rattle.jf_standing.specs.Named.{never, version_at}
+use Rattle.jf_standing.specs.Named.{not_stale, version_at}
 use Rattle.jf_standing.specs.Standing.{Standing}
 use Rattle.jf_standing.specs.Landing.{head_map, landing_of, version_after}
 use Rattle.jf_standing.proofs.Freshness.{stale-node}
@@ -27,7 +27,7 @@ or_cond : (b : Bool) (v : ℕ) (o : Option ℕ) → version_or (cond b (Some v) 
 or_cond true v o = refl
 or_cond false v o = refl
 
-module _ (s : Standing) (old new : SnapshotValue) (b : Batch) (at : IsSnapshotAt s s.head old) (next : IsNextSnapshot old b new) (last : s.head + 1 < never) where
+module _ (s : Standing) (old new : SnapshotValue) (b : Batch) (at : IsSnapshotAt s s.head old) (next : IsNextSnapshot old b new) (last : s.head + 1 < not_stale) where
   abbrev after : Map
   after = apply (head_map s) b
 

@@ -9,7 +9,7 @@ use Rattle.jf_payload.specs.declared.records.Commit.{Commit}
 use Rattle.jf_node.specs.SnapshotValue.{SnapshotValue}
 use Rattle.jf_node.specs.declared.update.Update.{Update}
 use Rattle.jf_diff.specs.Landings.{version_in}
-use Rattle.jf_standing.specs.Named.{never, map_at, version_at}
+use Rattle.jf_standing.specs.Named.{not_stale, map_at, version_at}
 use Rattle.jf_standing.specs.Standing.{Standing, with_nodes}
 use Rattle.jf_standing.specs.Landing.{landing_of, version_after}
 use Rattle.jf_standing.specs.Building.{floor_standing, nodes_by_name}
@@ -17,7 +17,7 @@ use Rattle.jf_standing.specs.Building.{floor_standing, nodes_by_name}
 -- u is what the landing of the map m on the head of s writes: its root, fresh nodes and stale names, and the snapshot of
 -- m as the next version, which is below the greatest number
 pub record IsLandingUpdate (s : Standing) (m : Map) (u : Update) : Type 0 where
-  pub last : s.head + 1 < never
+  pub last : s.head + 1 < not_stale
   pub map : u.snapshot.map ≡ m
   pub version : u.snapshot.version ≡ s.head + 1
   pub root : u.root ≡ root m

@@ -10,7 +10,7 @@ use Rattle.jf_node.specs.SnapshotValue.{SnapshotValue}
 use Rattle.jf_node.specs.declared.update.Update.{Update}
 use Rattle.jf_diff.specs.Landings.{version_in}
 use Rattle.jf_stale.specs.Marks.{Mark}
-use Rattle.jf_standing.specs.Named.{Named, never}
+use Rattle.jf_standing.specs.Named.{Named, not_stale}
 use Rattle.jf_standing.specs.Standing.{Standing}
 use Rattle.jf_standing.specs.Sound.{IsSound}
 use Rattle.jf_standing.specs.Landing.{landing_of}
@@ -37,7 +37,7 @@ AreSnapshotsFrom s w (x ∷ xs) = IsSnapshotAt s w x × AreSnapshotsFrom s (w + 
 
 -- whether a node is stale since some version
 abbrev pub is_stale_node : Named → Bool
-is_stale_node n = nat_lt n.2 never
+is_stale_node n = nat_lt n.2 not_stale
 
 -- the marks of the nodes that are stale, in the order of the nodes
 abbrev pub marks_of : List Named → List Mark

@@ -11,7 +11,7 @@ ghost use Rattle.jf_codec.specs.declared.format.Format.TheVariants as format;
 ghost use Rattle.jf_diff.specs.Landings.{version_in};
 ghost use Rattle.jf_update.specs.Outcomes.{AreShort};
 ghost use Rattle.jf_update.specs.ValueHashes.{AreValueHashes};
-ghost use Rattle.jf_standing.specs.Named.{never, map_at};
+ghost use Rattle.jf_standing.specs.Named.{not_stale, map_at};
 ghost use Rattle.jf_standing.specs.Standing.{Standing, versions_of, with_floor};
 ghost use Rattle.jf_standing.specs.Sound.{IsSound};
 ghost use Rattle.jf_standing.specs.Landing.{head_map, landing_of, version_after};
@@ -82,7 +82,7 @@ impl Directory {
         snapshot: Snapshot,
     ) -> Result<Directory, Memory>
         requires numbered { base + length earlier.now ≡ snapshot.version }
-        requires bounded { snapshot.version < never }
+        requires bounded { snapshot.version < not_stale }
         requires room { len snapshot.map ≤ 2 ^ 63 }
         ensures { IfOk result (λ d. d ≡ begun_with base earlier.now snapshot) }
     {
@@ -197,7 +197,7 @@ impl Directory {
         workers: Workers,
         gate: &G,
     ) -> Result<NextVersion, Memory>
-        requires bounded { self.now.head + 1 < never }
+        requires bounded { self.now.head + 1 < not_stale }
         requires batch { IsBatch entries.now }
         requires short { AreShort entries.now }
         requires hashed { AreValueHashes entries.now hashes.now }
@@ -228,7 +228,7 @@ impl Directory {
         workers: Workers,
         gate: &G,
     ) -> Result<NextVersion, Memory>
-        requires bounded { self.now.head + 1 < never }
+        requires bounded { self.now.head + 1 < not_stale }
         ensures landing { IfOk result (IsLandingUpdate self.now (apply (head_map self.now) batch.now)) }
         ensures own { IfOk result (λ u. IsLandingUpdate self.now u.snapshot.map u) }
         ensures bounded { IfOk result (λ u. length u.fresh ≤ 66 * length batch.now + 1) }
@@ -247,7 +247,7 @@ impl Directory {
         workers: Workers,
         gate: &G,
     ) -> Result<Update, Memory>
-        requires bounded { self.now.head + 1 < never }
+        requires bounded { self.now.head + 1 < not_stale }
         ensures landing { IfOk result (IsLandingUpdate self.now (apply (head_map self.now) batch.now)) }
         ensures own { IfOk result (λ u. IsLandingUpdate self.now u.snapshot.map u) }
         ensures bounded { IfOk result (λ u. length u.fresh ≤ 66 * length batch.now + 1) }
@@ -293,7 +293,7 @@ impl Directory {
         landing: &SharedCommit,
         snapshot: Snapshot,
     ) -> Result<(), Memory>
-        requires bounded { self.old.head + 1 < never }
+        requires bounded { self.old.head + 1 < not_stale }
         requires landing { landing.now ≡ landing_of format.Two self.old snapshot.map }
         requires version { snapshot.version ≡ self.old.head + 1 }
         requires versions { (p : Path) → is_node 0 p (entries snapshot.map) ≡ true → version_in snapshot p ≡ version_after self.old snapshot.map p }

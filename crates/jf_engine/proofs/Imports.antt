@@ -23,7 +23,7 @@ use Rattle.jf_node.specs.SnapshotValue.{SnapshotValue}
 use Rattle.jf_node.specs.Snapshots.{snapshot_version_at, IsSnapshot}
 use Rattle.jf_diff.specs.Landings.{version_in, version_or}
 use Rattle.jf_update.specs.Restored.{IsRestored}
-use Rattle.jf_standing.specs.Named.{Named, never, map_at}
+use Rattle.jf_standing.specs.Named.{Named, not_stale, map_at}
 use Rattle.jf_standing.specs.Standing.{Standing, versions_of, down_from}
 use Rattle.jf_standing.specs.Sound.{IsSound}
 use Rattle.jf_standing.specs.Next.{IsReadStanding}
@@ -36,7 +36,7 @@ use Rattle.jf_dir.proofs.Held.{nodes-alike}
 use Rattle.jf_engine.specs.Kept.{checkpoint_at_start}
 use Rattle.jf_engine.proofs.Records.{nodes-ordered}
 
-module _ (x : SnapshotValue) (snap : IsSnapshot x) (last : x.version < never) (room : len x.map ≤ 2 ^ 63) where
+module _ (x : SnapshotValue) (snap : IsSnapshot x) (last : x.version < not_stale) (room : len x.map ≤ 2 ^ 63) where
   abbrev made : Standing
   made = floor_standing format.Two x.version x.version (root x.map ∷ []) x.map (version_in x)
 
@@ -100,6 +100,6 @@ pub restored-imported : (version : ℕ) (es : List (List ℕ × List ℕ)) (writ
     → d ≡ begun_with version [] x → versions_of d ≡ imported_versions version (map_of_entries es)
 restored-imported version es written x d restored snap sorted last few is =
     let same : x.map ≡ map_of_entries es = map-from_entries x.map (map_of_entries es) (restored.same ∙ sym (fin.entries-from_sorted key_cmp es sorted)) in
-    let end : x.version < never = omega (arith, last, restored.version) in
+    let end : x.version < not_stale = omega (arith, last, restored.version) in
     ap versions_of (is ∙ ap (λ v. begun_with v [] x) (sym restored.version)) ∙ begun-imported x snap end (restored-room version es written x restored few)
     ∙ ap (λ v. imported_versions v x.map) restored.version ∙ ap (imported_versions version) same

@@ -13,8 +13,8 @@ use Rattle.jf_model.specs.Batches.{key_count}
 use Rattle.jf_codec.specs.declared.format.Format.{Format}
 use Rattle.jf_codec.specs.declared.format.Format.TheVariants as format
 use Rattle.jf_payload.specs.declared.records.Commit.{Commit}
-use Rattle.jf_payload.specs.Spelling.{IsCommit, IsRecord, follow}
-use Rattle.jf_standing.specs.Named.{never}
+use Rattle.jf_payload.specs.Spelling.{IsCommit, IsRecord, are_consecutive}
+use Rattle.jf_standing.specs.Named.{not_stale}
 use Rattle.jf_standing.specs.Standing.{Standing}
 use Rattle.jf_standing.specs.Sound.{IsSound}
 use Rattle.jf_standing.specs.Next.{IsReadStanding}
@@ -37,13 +37,13 @@ length-landings fmt s [] = refl
 length-landings fmt s (b ∷ bs) = ap suc (length-landings fmt (landed_on fmt (apply (head_map s) b) s) bs)
 
 -- the versions of landings rise by one
-landings-follow : (fmt : Format) (s : Standing) (bs : List Batch) → IsTrue (follow (landings_of fmt s bs))
+landings-follow : (fmt : Format) (s : Standing) (bs : List Batch) → IsTrue (are_consecutive (landings_of fmt s bs))
 landings-follow fmt s [] = refl
 landings-follow fmt s (b ∷ []) = refl
 landings-follow fmt s (b ∷ x ∷ bs) = and_from _ _ (eq-eqb _ _ refl) (landings-follow fmt (landed_on fmt (apply (head_map s) b) s) (x ∷ bs))
 
 -- landings that have a spelling are a record that has one
-landed_record-spelled : (cs : List Commit) → AllByRecursion (IsCommit format.Two) cs → IsTrue (follow cs) → 1 ≤ length cs → length cs ≤ max_forks → IsRecord format.Two (landed_record cs)
+landed_record-spelled : (cs : List Commit) → AllByRecursion (IsCommit format.Two) cs → IsTrue (are_consecutive cs) → 1 ≤ length cs → length cs ≤ max_forks → IsRecord format.Two (landed_record cs)
 landed_record-spelled [] each versions any few = absurd (omega (arith, any))
 landed_record-spelled (c ∷ []) each versions any few = each.0
 landed_record-spelled (c ∷ d ∷ cs) each versions any few = record { many = omega arith; few = few; commits = each; versions = versions }
@@ -106,7 +106,7 @@ module _ (from : Standing) (bs : List Batch) (i : ℕ) (cs : List Commit) (to : 
   at_next b d within is = subst (λ rest. AreLandedSoFar from (take i bs) rest cs to) (drop_more bs i d within ∙ ap (λ x. x ∷ drop (i + 1) bs) (sym is)) so
 
   -- the next batch can be landed
-  pub next_fits : (b d : Batch) → i < length bs → b ≡ slice_index_or bs i d → from.head + length bs < never → (to.head + 1 < never) × (len (head_map to) + length b ≤ 2 ^ 63)
+  pub next_fits : (b d : Batch) → i < length bs → b ≡ slice_index_or bs i d → from.head + length bs < not_stale → (to.head + 1 < not_stale) × (len (head_map to) + length b ≤ 2 ^ 63)
   next_fits b d within is last =
       let next = at_next b d within is in
       let room = next.room in

@@ -21,7 +21,7 @@ use Rattle.jf_payload.specs.declared.records.Record.TheVariants as «record»
 use Rattle.jf_payload.specs.Spelling.{IsRecord, IsSpelling, kind_of, record_bytes, checkpoint_kind}
 use Rattle.jf_payload.specs.Counted.{record_in, commit_in, nodes_in}
 use Rattle.jf_payload.specs.Laws.{KeptIsSpelled, WrittenInBoth}
-use Rattle.jf_standing.specs.Named.{Named, never, AreEntries}
+use Rattle.jf_standing.specs.Named.{Named, not_stale, AreEntries}
 use Rattle.jf_standing.specs.Standing.{Standing, versions_of, with_floor, with_nodes}
 use Rattle.jf_standing.specs.Sound.{IsSound}
 use Rattle.jf_standing.specs.Next.{IsReadStanding}
@@ -53,7 +53,7 @@ appended fmt offset r = appended_record offset (kind_of fmt r) (record_bytes fmt
 
 -- the record of landings leads from what the format keeps of a standing to what it keeps of the standing after them
 pub landings_lead : LandingsFollow → FormatsAreSound → FormatsGroup → KeptIsSpelled → WrittenInBoth → (rs : List Framed) (fmt : Format) (offset : ℕ) (s : Standing) (bs : List Batch)
-    → LeadToStanding rs fmt (standing_in fmt s) → IsReadStanding s → IsSound format.Two s → AllByRecursion IsBatch bs → len (head_map s) + key_count bs ≤ 2 ^ 63 → s.head + length bs < never
+    → LeadToStanding rs fmt (standing_in fmt s) → IsReadStanding s → IsSound format.Two s → AllByRecursion IsBatch bs → len (head_map s) + key_count bs ≤ 2 ^ 63 → s.head + length bs < not_stale
     → IsRecord format.Two (landed_record (landings_of format.Two s bs))
     → LeadToStanding (rs ++ appended fmt offset (landed_record (landings_of format.Two s bs)) ∷ []) fmt (standing_in fmt (all_landed format.Two s bs))
     × (versions_of (standing_in fmt (all_landed format.Two s bs)) ≡ land_all bs (versions_of (standing_in fmt s)))

@@ -10,7 +10,7 @@ use Rattle.jf_model.specs.Batches.{key_count}
 use Rattle.jf_codec.specs.declared.format.Format.TheVariants as format
 use Rattle.jf_standing.specs.Standing.{Standing, versions_of}
 use Rattle.jf_standing.specs.Sound.{IsSound}
-use Rattle.jf_standing.specs.Named.{never}
+use Rattle.jf_standing.specs.Named.{not_stale}
 use Rattle.jf_standing.specs.Next.{IsReadStanding}
 use Rattle.jf_standing.specs.Landing.{head_map}
 use Rattle.jf_standing.specs.Building.{all_landed}
@@ -24,7 +24,7 @@ use Rattle.jf_engine.specs.declared.fault.EngineFault.TheVariants as engine_faul
 use Rattle.jf_engine.specs.declared.fault.LandFault.{LandFault}
 use Rattle.jf_engine.specs.declared.fault.LandFault.TheVariants as land_fault
 
-module _ (group : GroupsLand) (s d : Standing) (bs : List Batch) (read : IsReadStanding s) (sound : IsSound format.Two s) (batches : AllByRecursion IsBatch bs) (room : len (head_map s) + key_count bs ≤ 2 ^ 63) (last : s.head + length bs < never)
+module _ (group : GroupsLand) (s d : Standing) (bs : List Batch) (read : IsReadStanding s) (sound : IsSound format.Two s) (batches : AllByRecursion IsBatch bs) (room : len (head_map s) + key_count bs ≤ 2 ^ 63) (last : s.head + length bs < not_stale)
     (is : d ≡ all_landed format.Two s bs) where
   -- it is that of the versions after the batches
   pub landed-root : root (newest (versions_of d)) ≡ landed_root (versions_of s) bs

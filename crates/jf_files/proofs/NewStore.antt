@@ -23,7 +23,7 @@ use Rattle.jf_payload.specs.declared.records.Record.{Record}
 use Rattle.jf_payload.specs.Spelling.{record_bytes, IsCheckpoint, IsSpelling}
 use Rattle.jf_payload.specs.Laws.{SpelledIsSpelling}
 use Rattle.jf_payload.specs.declared.records.Record.TheVariants as «record»
-use Rattle.jf_standing.specs.Named.{Named, never}
+use Rattle.jf_standing.specs.Named.{Named, not_stale}
 use Rattle.jf_standing.specs.Building.{node_of, nodes_by_name, new_standing, checkpoint_of}
 use Rattle.jf_standing.specs.OrderLaws.{CheckpointsGive, NewIsSound}
 use Rattle.jf_files.specs.NewStore.{empty_root, new_store_payload, new_store_files, new_store_bytes}
@@ -39,7 +39,7 @@ root_is : root fin.empty ≡ empty_root
 root_is = root-empty ∙ E_is
 
 abbrev one_node : List Named
-one_node = (record { version = 0; path = [] }, node.Null, never) ∷ []
+one_node = (record { version = 0; path = [] }, node.Null, not_stale) ∷ []
 
 abbrev first : Record
 first = «record».Checkpoint 1 0 0 0 (empty_root ∷ []) one_node

@@ -16,7 +16,7 @@ use Rattle.jf_payload.specs.declared.records.Commit.{Commit}
 use Rattle.jf_payload.specs.declared.records.Record.{Record}
 use Rattle.jf_payload.specs.Spelling.{IsSpelling}
 use Rattle.jf_payload.specs.declared.records.Record.TheVariants as «record»
-use Rattle.jf_standing.specs.Named.{never, leaf_entries, AreEntries}
+use Rattle.jf_standing.specs.Named.{not_stale, leaf_entries, AreEntries}
 use Rattle.jf_standing.specs.Standing.{Standing, versions_of, with_floor, with_nodes}
 use Rattle.jf_standing.specs.Sound.{IsSound}
 use Rattle.jf_standing.specs.Landing.{head_map}
@@ -36,7 +36,7 @@ landed_record (c ∷ d ∷ cs) = «record».Group (c ∷ d ∷ cs)
 abbrev pub LandingsFollow : Type 0
 LandingsFollow =
     (rs : List Framed) (fmt : Format) (s : Standing) (bs : List Batch) (y : Framed) → LeadToStanding rs fmt s
-    → IsSound fmt s → AreEntries (leaf_entries s.nodes) → AllByRecursion IsBatch bs → len (head_map s) + key_count bs ≤ 2 ^ 63 → s.head + length bs < never
+    → IsSound fmt s → AreEntries (leaf_entries s.nodes) → AllByRecursion IsBatch bs → len (head_map s) + key_count bs ≤ 2 ^ 63 → s.head + length bs < not_stale
     → IsSpelling fmt (landed_record (landings_of fmt s bs)) y.kind y.payload
     → LeadToStanding (rs ++ y ∷ []) fmt (all_landed fmt s bs) × (versions_of (all_landed fmt s bs) ≡ versions_after_step (Lands bs) (versions_of s))
 
@@ -62,7 +62,7 @@ CompactionsFollow =
 abbrev pub ImportsFollow : Type 0
 ImportsFollow =
     (fmt : Format) (version : ℕ) (es : List (List ℕ × List ℕ)) (generation : ℕ) (x : Framed) (v : Versions)
-    → IsMap (map_of_entries es) → len (map_of_entries es) ≤ 2 ^ 63 → version < never → IsSpelling fmt (checkpoint_of generation (imported_standing fmt version (map_of_entries es))) x.kind x.payload
+    → IsMap (map_of_entries es) → len (map_of_entries es) ≤ 2 ^ 63 → version < not_stale → IsSpelling fmt (checkpoint_of generation (imported_standing fmt version (map_of_entries es))) x.kind x.payload
     → LeadTo (x ∷ []) (versions_after_step (Imports version es) v)
 
 -- the first checkpoint of a new store leads to a new store, as an empty list of records does

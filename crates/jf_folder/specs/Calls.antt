@@ -41,7 +41,7 @@ pub record ReadsAlone (c c' : FileCalls) : Type 0 where
   pub data_syncs : c'.data_syncs ≡ c.data_syncs
 
 -- it was written, and nothing else
-pub record WritesAlone (c c' : FileCalls) : Type 0 where
+pub record MakesWriteAlone (c c' : FileCalls) : Type 0 where
   pub lengths : c'.lengths ≡ c.lengths
   pub reads : c'.reads ≡ c.reads
   pub writes : c.writes ≤ c'.writes
@@ -75,7 +75,7 @@ pub record OnSide (makes : FileCalls → FileCalls → Type 0) (failed : Type 0)
   pub lost : s'.lost ≡ s.lost
 
 -- its file's cuts and the whole sync that is due, after one cut, whatever its outcome
-pub record IsCut (s s' : SideTally) : Type 0 where
+pub record HasCutSide (s s' : SideTally) : Type 0 where
   pub cuts : s'.calls.cuts ≡ count_after_call s.calls.cuts
   pub whole_due : s'.whole_due ≡ true
 
@@ -88,7 +88,7 @@ pub record IsUncut (s s' : SideTally) : Type 0 where
 pub record CutsSide (failed : Type 0) (s s' : SideTally) : Type 0 where
   pub refused : s.lost ≡ true → (s' ≡ s) × failed
   pub made : s.lost ≡ false → AsksAndCuts s.calls s'.calls
-  pub cut : IsUncut s s' ⊎ IsCut s s'
+  pub cut : IsUncut s s' ⊎ HasCutSide s s'
   pub lost : s'.lost ≡ s.lost
 
 -- a sync: one call of the kind that is due, unless the side is lost; it is lost exactly after a sync that failed, and no

@@ -1,7 +1,7 @@
 // Reading and writing a whole range of a file, in as many calls as it takes.
 ghost use Rattle.std.specs.Prelude.{◌+◌, ◌<◌, ◌≤◌, ◌^◌, length, IfOk, OnOk};
 ghost use Rattle.jf_path.specs.Faults.{HasCause};
-ghost use Rattle.jf_folder.specs.Calls.{ReadsAlone, WritesAlone};
+ghost use Rattle.jf_folder.specs.Calls.{ReadsAlone, MakesWriteAlone};
 
 use crate::counted::CountedFile;
 use std::io;
@@ -32,7 +32,7 @@ pub(crate) fn read_pieces(file: &mut CountedFile, at: u64, buf: &mut [u8]) -> io
 /// Writes all of `bytes` from offset `at` on.
 pub(crate) fn write_pieces(file: &mut CountedFile, at: u64, bytes: &[u8]) -> io::Result<()>
     requires { at + length bytes.now ≤ 2 ^ 62 }
-    ensures calls { WritesAlone file.old file.new }
+    ensures calls { MakesWriteAlone file.old file.new }
     ensures made { OnOk result (0 < length bytes.now → HasCause file.old.writes file.new.writes) }
 {
     let mut n = 0;

@@ -14,7 +14,7 @@ use Rattle.jf_follow.specs.declared.fault.FollowFault.TheVariants as fault
 use Rattle.jf_follow.specs.declared.judging.Judgement.{Judgement}
 use Rattle.jf_follow.specs.declared.judging.Judgement.TheVariants as judged
 use Rattle.jf_lead.specs.Landings.{landed_block}
-use Rattle.jf_follow.specs.Following.{judgement, told_landing, is_at_limit}
+use Rattle.jf_follow.specs.Following.{judgement, announced_landing, is_at_limit}
 
 -- ---- the first row that holds
 abbrev first_row : List (Bool × Judgement) → Judgement
@@ -216,9 +216,9 @@ module _ (v : Versions) (b : LandingBlock) where
 
 -- ---- the next version
 -- with its own root it is to be landed, unless no version may follow
-pub next_judgement : (v : Versions) (batch : Batch) → v.base ≤ v.head → judgement v (told_landing (v.head + 1) (landed_block v batch).root batch) ≡ cond (is_at_limit v) (judged.Refused fault.Last) judged.Next
+pub next_judgement : (v : Versions) (batch : Batch) → v.base ≤ v.head → judgement v (announced_landing (v.head + 1) (landed_block v batch).root batch) ≡ cond (is_at_limit v) (judged.Refused fault.Last) judged.Next
 next_judgement v batch low =
-    let b : LandingBlock = told_landing (v.head + 1) (landed_block v batch).root batch in
+    let b : LandingBlock = announced_landing (v.head + 1) (landed_block v batch).root batch in
     elim (is_at_limit v) as (λ t. is_at_limit v ≡ t → judgement v b ≡ cond t (judged.Refused fault.Last) judged.Next) [ true ↦ λ last. row_last v b low refl last | false ↦ λ more. row_next v b low refl more refl ] refl
 
 head_small : (head : ℕ) → nat_le (2 ^ 64 - 2) head ≡ false → head + 1 ≤ 2 ^ 64 - 2

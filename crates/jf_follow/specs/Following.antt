@@ -18,8 +18,8 @@ use Rattle.jf_follow.specs.declared.judging.Judgement.TheVariants as judged
 
 -- ---- one landing
 -- a landing that is told: its version, the root of its map, and its batch
-abbrev pub told_landing : ℕ → List ℕ → Batch → LandingBlock
-told_landing version root batch = record { version = version; root = root; batch = batch }
+abbrev pub announced_landing : ℕ → List ℕ → Batch → LandingBlock
+announced_landing version root batch = record { version = version; root = root; batch = batch }
 
 -- whether no version may follow the head: it is 2^64 - 2, or its map has more than 2^62 entries
 abbrev pub is_at_limit : Versions → Bool

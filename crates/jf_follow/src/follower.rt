@@ -1,6 +1,6 @@
 // A store that follows another.
 ghost use Rattle.std.specs.Prelude.{◌≡◌, ◌↔◌, Err, true};
-ghost use Rattle.jf_follow.specs.Following.{told_landing};
+ghost use Rattle.jf_follow.specs.Following.{announced_landing};
 ghost use Rattle.jf_follow.specs.Takes.{TakesBlock};
 
 use crate::fault::FollowFault;
@@ -86,7 +86,7 @@ impl<D: Disk> Follower<D> {
         gate: &G,
     ) -> Result<Taken, FollowFault>
         // The landing is there, or the refusal's reason holds; each refusal but `DiskFault` changes nothing.
-        ensures taken { TakesBlock (told_landing version root.now batch.now) self.old self.new result }
+        ensures taken { TakesBlock (announced_landing version root.now batch.now) self.old self.new result }
         // It returns `Broken` exactly if the store was broken.
         ensures broken { (result ≡ Err FollowFault.Broken) ↔ (self.old.broken ≡ true) }
     {

@@ -1,6 +1,6 @@
 // How a store judges a landing that it is told of, by what it has recorded.
 ghost use Rattle.std.specs.Prelude.{◌≡◌, ◌≢◌, ◌+◌, ◌≤◌};
-ghost use Rattle.jf_follow.specs.Following.{judgement, told_landing};
+ghost use Rattle.jf_follow.specs.Following.{judgement, announced_landing};
 
 use crate::fault::FollowFault;
 use jf_disk::Disk;
@@ -28,7 +28,7 @@ pub(crate) fn judge<D: Disk>(
     root: &Hash,
     batch: &Batch,
 ) -> Judgement
-    ensures judged { result ≢ Judgement.Next → result ≡ judgement engine.now.versions (told_landing version root.now batch.now) }
+    ensures judged { result ≢ Judgement.Next → result ≡ judgement engine.now.versions (announced_landing version root.now batch.now) }
     ensures next { result ≡ Judgement.Next → version ≡ engine.now.versions.head + 1 }
 {
     engine.know();
@@ -50,7 +50,7 @@ fn judge_known<D: Disk>(engine: &Engine<D>, version: u64, root: &Hash, batch: &B
     requires low { engine.now.versions.base ≤ version }
     requires high { version ≤ engine.now.versions.head }
     ensures recorded { result ≢ Judgement.Next }
-    ensures judged { result ≡ judgement engine.now.versions (told_landing version root.now batch.now) }
+    ensures judged { result ≡ judgement engine.now.versions (announced_landing version root.now batch.now) }
 {
     let _ = batch;
     let Some(recorded) = engine.root_of(version) else {

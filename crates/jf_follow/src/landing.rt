@@ -1,6 +1,6 @@
 // A landing of the version after the head is made, if it has the announced root.
 ghost use Rattle.std.specs.Prelude.{◌≡◌, ◌+◌, false};
-ghost use Rattle.jf_follow.specs.Following.{told_landing};
+ghost use Rattle.jf_follow.specs.Following.{announced_landing};
 ghost use Rattle.jf_follow.specs.Takes.{TakesBlock};
 
 use crate::fault::FollowFault;
@@ -26,7 +26,7 @@ pub(crate) fn land<D: Disk, H: Threads + Sync, G: Gate>(
 ) -> Result<Taken, FollowFault>
     requires whole { engine.old.broken ≡ false }
     requires next { version ≡ engine.old.versions.head + 1 }
-    ensures { TakesBlock (told_landing version root.now batch.now) engine.old engine.new result }
+    ensures { TakesBlock (announced_landing version root.now batch.now) engine.old engine.new result }
 {
     engine.know();
     match engine.land_rooted(rt, alloc, batch, root, workers, gate) {

@@ -107,9 +107,9 @@ fn how_ended<K: Sink, D: Disk>(
     following: &Following<D>,
     sink: &mut K,
 ) -> Followed
-    requires unwritten { fed ≢ Feeding.WriteFault }
+    requires unstopped { fed ≢ Feeding.WriteFault }
     ensures ended { EndsFed fed result following.now.reader following.now.follower.versions (K.text sink.old) (K.text sink.new) }
-    ensures read { result ≡ Followed.ReadFault → fed ≡ Feeding.ReadFault }
+    ensures read_cause { result ≡ Followed.ReadFault → fed ≡ Feeding.ReadFault }
     ensures cause { result ≡ Followed.WriteFault → HasCause (K.faults sink.old) (K.faults sink.new) }
     ensures silent { result ≢ Followed.Done → result ≢ Followed.WriteFault → sink.new ≡ sink.old }
     ensures counts { K.faults sink.old ≤ K.faults sink.new }
@@ -128,7 +128,7 @@ fn how_ended<K: Sink, D: Disk>(
 /// Ends the input: refuses the line that is missing, if it ends in the middle of a block; otherwise writes the line that tells
 /// where the store has come to.
 fn tell_end<K: Sink, D: Disk>(alloc: Global, following: &Following<D>, sink: &mut K) -> Followed
-    ensures told { EndsFollowing result following.now.reader following.now.follower.versions (K.text sink.old) (K.text sink.new) }
+    ensures written { EndsFollowing result following.now.reader following.now.follower.versions (K.text sink.old) (K.text sink.new) }
     ensures cause { result ≡ Followed.WriteFault → HasCause (K.faults sink.old) (K.faults sink.new) }
     ensures unstopped { (result ≡ Followed.ReadFault → ⊥) × (result ≡ Followed.DiskFault → ⊥) }
     ensures silent { result ≢ Followed.Done → result ≢ Followed.WriteFault → sink.new ≡ sink.old }

@@ -9,7 +9,7 @@ use Rattle.jf_model.specs.declared.entries.Parent.{Parent}
 use Rattle.jf_model.specs.Batches.{key_count}
 use Rattle.jf_model.specs.declared.entries.Parent.TheVariants as parent
 use Rattle.jf_model.proofs.ForkLists.{on_own}
-use Rattle.jf_forks.specs.Tables.{first_fault, Table, forks_of, missing, Grown, IsTable, keys_of, chain_fault}
+use Rattle.jf_forks.specs.Tables.{first_fault, Table, forks_of, fault_of_fork, Grown, IsTable, keys_of, chain_fault}
 use Rattle.jf_forks.specs.declared.fault.ForkFault.{ForkFault}
 use Rattle.jf_forks.specs.declared.fault.ForkFault.TheVariants as fault
 
@@ -36,7 +36,7 @@ first_none None p h = (refl, h)
 first_none (Some f) p h = absurd (cc)
 
 -- a fork that is not missing is live
-pub is_live : (id : ℕ) (t : Table) → missing id t ≡ None → is_among id (forks_of t.live) ≡ true
+pub is_live : (id : ℕ) (t : Table) → fault_of_fork id t ≡ None → is_among id (forks_of t.live) ≡ true
 is_live id t =
     elim (nat_le t.made id) as (λ b. cond b (Some fault.Unknown) (cond (is_among id (forks_of t.live)) None (Some fault.Gone)) ≡ None → is_among id (forks_of t.live) ≡ true) [
       | true ↦ λ h. absurd (cc)
@@ -52,7 +52,7 @@ few_keys n =
 
 pub chain_bounds : (id : ℕ) (t : Table) (list : List Batch) → IsTable t → chain_fault id t ≡ None → list ≡ batches (chain (forks_of t.live) id) → (1 ≤ length list) × (length list ≤ 1024) × (key_count list ≤ 10000)
 chain_bounds id t list sound may is =
-    let none = first_none (missing id t) _ may in
+    let none = first_none (fault_of_fork id t) _ may in
     let fs = forks_of t.live in
     let long : length list ≡ length (chain fs id) = ap length is ∙ length-map (chain fs id) (λ (f : Fork). f.batch) in
     let own = some_are id (chain fs id) (on_own id fs (is_live id t none.0)) in (

@@ -7,7 +7,7 @@ ghost use Rattle.jf_hash.specs.Maps.{Map, apply};
 ghost use Rattle.jf_hash.specs.Roots.{root};
 ghost use Rattle.jf_model.specs.Batches.{key_count};
 ghost use Rattle.jf_model.specs.Forks.{batches, chain, drop_count, fork_map, is_among, parent_map};
-ghost use Rattle.jf_forks.specs.Tables.{Table, IsTable, StandsOver, forks_of, map_of_fork, missing, missing_parent, making_fault, chain_fault, grown_without, grown_settled, RefusedBy};
+ghost use Rattle.jf_forks.specs.Tables.{Table, IsTable, StandsOver, forks_of, map_of_fork, fault_of_fork, missing_parent, making_fault, chain_fault, grown_without, grown_settled, RefusedBy};
 ghost use Rattle.jf_forks.specs.declared.fault.ForkFault.TheVariants as fault;
 
 use crate::chain::{chain_keys, chain_len, push_chain};
@@ -80,7 +80,7 @@ impl ForkTable {
 
     // Whether a fork is live; if it isn't, why.
     fn find(&self, id: u64) -> Result<(), ForkFault>
-        ensures { result_err result ≡ missing id self.now }
+        ensures { result_err result ≡ fault_of_fork id self.now }
     {
         if id >= self.made {
             return Err(ForkFault::Unknown);
@@ -96,7 +96,7 @@ impl ForkTable {
     /// not made yet or is gone.
     pub fn tree(&self, id: u64) -> Result<&SpecTree, ForkFault>
         // It is refused exactly if the fork is missing: `Unknown` if it was not made yet, `Gone` if it is no longer live.
-        ensures refused { result_err result ≡ missing id self.now }
+        ensures refused { result_err result ≡ fault_of_fork id self.now }
         // After `Ok`, if the table stands over the head's map, the tree is that map after the batches of the fork's chain.
         ensures map { IfOk result (λ t. (m : Map) → StandsOver m self.now → t.now ≡ fork_map m (forks_of self.now.live) id) }
         // After `Ok` the tree is the one that the table keeps for the fork.
@@ -225,7 +225,7 @@ impl ForkTable {
     /// missing; the table is then unchanged.
     pub fn drop_fork(&mut self, id: u64) -> Result<u64, ForkFault>
         // It is refused exactly if the fork is missing, as `Unknown` or `Gone`.
-        ensures refused { result_err result ≡ missing id self.old }
+        ensures refused { result_err result ≡ fault_of_fork id self.old }
         // After `Ok` the result is the number of forks that were dropped: the fork itself and those that stand on it.
         ensures count { IfOk result (λ n. n ≡ drop_count id (forks_of self.old.live)) }
         // After `Ok` all other forks stay as they are, and so does the number of forks made.
@@ -250,7 +250,7 @@ impl ForkTable {
         // If a fork lands, it is live and its chain has at most 10,000 keys.
         requires { IfSome fork (λ id. chain_fault id self.old ≡ None) }
         // Without a fork, none stays; the number of forks made is unchanged.
-        ensures none { fork ≡ None → self.new ≡ record { made = self.old.made; live = [] } }
+        ensures unforked { fork ≡ None → self.new ≡ record { made = self.old.made; live = [] } }
         // If a fork lands, exactly those that stand on it stay, its children now on the head.
         ensures found { (id : ℕ) → fork ≡ Some id → self.new ≡ record { made = self.old.made; live = grown_settled id self.old.live } }
         // Each fork that is still live has the map that it had.

@@ -14,10 +14,12 @@ pub trait Places {
 
     /// At which of them a child stands.
     fn children(&self) -> Bitmap
+        // The result has the bit of each place at which a child stands.
         ensures { result ≡ map is_occupied (slots self.now) };
 
     /// At which of them a leaf stands.
     fn leaves(&self) -> Bitmap
+        // The result has the bit of each place at which a leaf stands.
         ensures { result ≡ map holds_leaf (slots self.now) };
 
     /// The hash of the first child from a place on, or that of no entry without a child.

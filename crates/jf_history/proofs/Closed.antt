@@ -24,7 +24,7 @@ use Rattle.jf_store.proofs.EventLaws.{entries_of-append, entries_of-mark, attemp
 use Rattle.jf_store.proofs.ClosingLaws.{starts_further}
 use Rattle.jf_answers.specs.Own.{Own, begun_session}
 use Rattle.jf_answers.specs.OwnLines.{pin_of}
-use Rattle.jf_answers.specs.Explains.{Timeline, IsAmong, Answered, AreAnswered, Looks, Changes, GivesEntry, GaveOneMore, IsSession, AreSessions, IsAttempt, next_line, own_after_replies, seen_after_replies, places_owned, places_told, pins_of, timeline_of}
+use Rattle.jf_answers.specs.Explains.{Timeline, IsAmong, Answered, AreAnswered, Looks, HasAnsweredChange, GivesEntry, GaveOneMore, IsSession, AreSessions, IsAttempt, next_line, own_after_replies, seen_after_replies, places_owned, places_in_reply, pins_of, timeline_of}
 use Rattle.jf_history.specs.Sessions.{Session, HaveMet, FollowsLine, IsTry, HasDoneNothing, seen_by, timeline}
 use Rattle.jf_history.specs.Runs.{EndsBy, IsAtRest}
 use Rattle.jf_history.specs.Serving.{Served, LosesReplies, IsServed, AreServed, FailedIn, scripts_of, replies_of, passes_of}
@@ -180,16 +180,16 @@ module _ (store : Store) (events : List Event) (out_of_memory pins : List ℕ) (
         (stay store.start.state pins (seen_by served.mid.pass) (entries_among mid_begins.0) (begun_session n) 0 served.done served.had
         (served.answered.answered pins (have_seen pins store.start events served.mid.pass.seen mid_begins met)))))
 
-    all_places : places_owned n 0 (entries_among events) ≡ places_told served.had
+    all_places : places_owned n 0 (entries_among events) ≡ places_in_reply served.had
     all_places =
         subst (λ (k : ℕ). places_owned k 0 (entries_among events) ≡ places_owned k 0 (seen_by served.last.pass)) number_last
         (places_on served.last.pass events last_begins (subst (λ (p : Pass). OthersAlone p events) served.pass_is others))
         ∙ subst (λ (k : ℕ). places_owned k 0 (seen_by served.last.pass) ≡ places_owned k 0 (seen_by served.mid.pass)) numbered rests.places ∙ served.answered.places
 
     abbrev Result : List Answered → Type 0
-    Result rs = (places_owned n 0 (entries_among events) ≡ places_told rs) ⊎ (IsAmong out_of_memory n × GaveOneMore h n s.script rs)
+    Result rs = (places_owned n 0 (entries_among events) ≡ places_in_reply rs) ⊎ (IsAmong out_of_memory n × GaveOneMore h n s.script rs)
 
-    changes_only : (own : Own) (seen : ℕ) (line : List ℕ) (r : Answered) (e : Entry) → Looks h own seen line r ⊎ Changes h own seen line r → r.entry ≡ Some e → Changes h own seen line r
+    changes_only : (own : Own) (seen : ℕ) (line : List ℕ) (r : Answered) (e : Entry) → Looks h own seen line r ⊎ HasAnsweredChange h own seen line r → r.entry ≡ Some e → HasAnsweredChange h own seen line r
     changes_only own seen line r e (inl l) given = absurd (let x : None ≡ Some e = sym l.none ∙ given in cc)
     changes_only own seen line r e (inr c) given = c
 
@@ -200,7 +200,7 @@ module _ (store : Store) (events : List Event) (out_of_memory pins : List ℕ) (
         let places = all_places ∙ a.places l.quiet in
         let many : length (take l.count served.had) ≡ l.count = length-take-le l.count served.had (let w = l.within in omega arith) in
         elim a.reply.entry as (λ (o : Option Entry). a.reply.entry ≡ o → Result (take l.count served.had)) [
-          | None ↦ λ none. inl (places ∙ ap (λ (o : Option Entry). places_told (take l.count served.had) ++ cond (is_some o) (a.reply.number ∷ []) []) none ∙ append-nil (places_told (take l.count served.had)))
+          | None ↦ λ none. inl (places ∙ ap (λ (o : Option Entry). places_in_reply (take l.count served.had) ++ cond (is_some o) (a.reply.number ∷ []) []) none ∙ append-nil (places_in_reply (take l.count served.had)))
           | Some e ↦ λ given. inr (
             among,
             record {
@@ -208,7 +208,7 @@ module _ (store : Store) (events : List Event) (out_of_memory pins : List ℕ) (
               next = ap (slice_get s.script) many ∙ a.line_at;
               unwritten = a.reply;
               changes = changes_only (own_after_replies (begun_session n) (take l.count served.had)) (seen_after_replies 0 (take l.count served.had)) a.line a.reply e a.answers.answered given;
-              places = places ∙ ap (λ (o : Option Entry). places_told (take l.count served.had) ++ cond (is_some o) (a.reply.number ∷ []) []) given;
+              places = places ∙ ap (λ (o : Option Entry). places_in_reply (take l.count served.had) ++ cond (is_some o) (a.reply.number ∷ []) []) given;
             },
           )
         ] refl
@@ -217,7 +217,7 @@ module _ (store : Store) (events : List Event) (out_of_memory pins : List ℕ) (
     session_of = elim served.told as (λ o. IsSession h out_of_memory n s.script s.replies) [
       | inl same ↦ record {
         replies = subst (λ (rs : List Answered). AreAnswered h (begun_session n) 0 s.script rs) (sym same) all_answered;
-        entries = inl (all_places ∙ ap places_told (sym same));
+        entries = inl (all_places ∙ ap places_in_reply (sym same));
       }
       | inr lost ↦ record {
         replies = subst (λ (rs : List Answered). AreAnswered h (begun_session n) 0 s.script rs) (sym lost.2.told_are) (AreAnswered-front h (begun_session n) 0 lost.2.count s.script served.had all_answered);

@@ -12,7 +12,7 @@ use Rattle.jf_store.specs.declared.event.Event.TheVariants.{Done, Mark}
 use Rattle.jf_store.specs.Starts.{Start}
 use Rattle.jf_store.specs.Floors.{AreMet}
 use Rattle.jf_answers.specs.Own.{Own}
-use Rattle.jf_answers.specs.Explains.{Timeline, Answered, IsAnswered, AreAnswered, own_after_replies, seen_after_replies, places_told, places_owned}
+use Rattle.jf_answers.specs.Explains.{Timeline, Answered, IsAnswered, AreAnswered, own_after_replies, seen_after_replies, places_in_reply, places_owned}
 use Rattle.jf_history.specs.Sessions.{HeldFloor, entry_place}
 use Rattle.jf_history.specs.Runs.{AreHeld}
 
@@ -43,9 +43,9 @@ AreAnswered-push h own seen (l ∷ ls) [] line r same a one = absurd (omega arit
 AreAnswered-push h own seen [] (x ∷ rs) line r same a one = absurd a
 AreAnswered-push h own seen (l ∷ ls) (x ∷ rs) line r same a one = (a.0, AreAnswered-push h x.own x.number ls rs line r (omega arith) a.1 one)
 
-pub places_told-push : (rs : List Answered) (r : Answered) → places_told (rs ++ r ∷ []) ≡ places_told rs ++ entry_place r
+pub places_told-push : (rs : List Answered) (r : Answered) → places_in_reply (rs ++ r ∷ []) ≡ places_in_reply rs ++ entry_place r
 places_told-push [] r = refl
-places_told-push (x ∷ rs) r = elim (is_some x.entry) as (λ b. cond b (x.number ∷ places_told (rs ++ r ∷ [])) (places_told (rs ++ r ∷ [])) ≡ cond b (x.number ∷ places_told rs) (places_told rs) ++ entry_place r) [
+places_told-push (x ∷ rs) r = elim (is_some x.entry) as (λ b. cond b (x.number ∷ places_in_reply (rs ++ r ∷ [])) (places_in_reply (rs ++ r ∷ [])) ≡ cond b (x.number ∷ places_in_reply rs) (places_in_reply rs) ++ entry_place r) [
   | true ↦ ap (λ t. x.number ∷ t) (places_told-push rs r)
   | false ↦ places_told-push rs r
 ]
@@ -67,9 +67,9 @@ held_later : (start : Start) (es more : List Entry) (own : Own) (n : ℕ) (o : O
 held_later start es more own n o le h = subst (λ (xs : List Entry). IfSome o (HeldFloor start own (replay start.state xs))) (sym (take-append-le n es more le)) h
 
 -- they stay held where entries follow
-pub AreHeld-later : (start : Start) (es more : List Entry) (own : Own) (rs : List Answered) → within (length es) (places_told rs) → AreHeld start es own rs → AreHeld start (es ++ more) own rs
+pub AreHeld-later : (start : Start) (es more : List Entry) (own : Own) (rs : List Answered) → within (length es) (places_in_reply rs) → AreHeld start es own rs → AreHeld start (es ++ more) own rs
 AreHeld-later start es more own [] w h = tt
-AreHeld-later start es more own (r ∷ rs) w h = elim r.entry as (λ (o : Option Entry). within (length es) (cond (is_some o) (r.number ∷ places_told rs) (places_told rs)) → IfSome o (HeldFloor start own (replay start.state (take (r.number - 1) es)))
+AreHeld-later start es more own (r ∷ rs) w h = elim r.entry as (λ (o : Option Entry). within (length es) (cond (is_some o) (r.number ∷ places_in_reply rs) (places_in_reply rs)) → IfSome o (HeldFloor start own (replay start.state (take (r.number - 1) es)))
     → IfSome o (HeldFloor start own (replay start.state (take (r.number - 1) (es ++ more)))) × AreHeld start (es ++ more) r.own rs) [
       | None ↦ λ w' f. (tt, AreHeld-later start es more r.own rs w' h.1)
       | Some e ↦ λ w' f. let low = w'.0 in (held_later start es more own (r.number - 1) (Some e) (omega arith) f, AreHeld-later start es more r.own rs w'.1 h.1)
@@ -87,16 +87,16 @@ AreHeld-take start es own zero rs h = tt
 AreHeld-take start es own (suc n) [] h = tt
 AreHeld-take start es own (suc n) (r ∷ rs) h = (h.0, AreHeld-take start es r.own n rs h.1)
 
-told_none : (rs : List Answered) → AllByRecursion (λ r. r.entry ≡ None) rs → places_told rs ≡ []
+told_none : (rs : List Answered) → AllByRecursion (λ r. r.entry ≡ None) rs → places_in_reply rs ≡ []
 told_none [] h = refl
-told_none (r ∷ rs) h = ap (λ (o : Option Entry). cond (is_some o) (r.number ∷ places_told rs) (places_told rs)) h.0 ∙ told_none rs h.1
+told_none (r ∷ rs) h = ap (λ (o : Option Entry). cond (is_some o) (r.number ∷ places_in_reply rs) (places_in_reply rs)) h.0 ∙ told_none rs h.1
 
 told_more : (b : Bool) (n : ℕ) (ns ms ks : List ℕ) → ns ≡ ms ++ ks → cond b (n ∷ ns) ns ≡ cond b (n ∷ ms) ms ++ ks
 told_more true n ns ms ks e = ap (λ t. n ∷ t) e
 told_more false n ns ms ks e = e
 
 -- lines that give no entry tell no place
-pub places_told-take : (n : ℕ) (rs : List Answered) → AllByRecursion (λ r. r.entry ≡ None) (drop n rs) → places_told (take n rs) ≡ places_told rs
+pub places_told-take : (n : ℕ) (rs : List Answered) → AllByRecursion (λ r. r.entry ≡ None) (drop n rs) → places_in_reply (take n rs) ≡ places_in_reply rs
 places_told-take zero rs h = sym (told_none rs h)
 places_told-take (suc n) [] h = refl
 places_told-take (suc n) (r ∷ rs) h = ap (λ ns. cond (is_some r.entry) (r.number ∷ ns) ns) (places_told-take n rs h)
@@ -115,7 +115,7 @@ pub record AnswersAt (h : Timeline) (own : Own) (seen n : ℕ) (ls : List (List 
   pub reply : Answered
   pub line_at : slice_get ls n ≡ Some line
   pub answers : IsAnswered h (own_after_replies own (take n rs)) (seen_after_replies seen (take n rs)) line reply
-  pub places : AllByRecursion (λ r. r.entry ≡ None) (drop (n + 1) rs) → places_told rs ≡ places_told (take n rs) ++ entry_place reply
+  pub places : AllByRecursion (λ r. r.entry ≡ None) (drop (n + 1) rs) → places_in_reply rs ≡ places_in_reply (take n rs) ++ entry_place reply
 
 pub answers-at : (h : Timeline) (own : Own) (seen n : ℕ) (ls : List (List ℕ)) (rs : List Answered) → AreAnswered h own seen ls rs → n < length rs → AnswersAt h own seen n ls rs
 answers-at h own seen n ls [] a lt = absurd (omega arith)
@@ -135,5 +135,5 @@ answers-at h own seen (suc n) (line ∷ ls) (r ∷ rs) a lt =
       reply = m.reply;
       line_at = m.line_at;
       answers = m.answers;
-      places = λ quiet. told_more (is_some r.entry) r.number (places_told rs) (places_told (take n rs)) (entry_place m.reply) (m.places (subst (λ k. AllByRecursion (λ x. x.entry ≡ None) (drop k (r ∷ rs))) next quiet));
+      places = λ quiet. told_more (is_some r.entry) r.number (places_in_reply rs) (places_in_reply (take n rs)) (entry_place m.reply) (m.places (subst (λ k. AllByRecursion (λ x. x.entry ≡ None) (drop k (r ∷ rs))) next quiet));
     }

@@ -9,7 +9,7 @@ use Rattle.jf_model.specs.declared.entries.Entry.TheVariants as entry
 use Rattle.jf_answers.specs.Own.{Own}
 use Rattle.jf_answers.specs.Answers.{answer}
 use Rattle.jf_answers.specs.Runs.{answer_text}
-use Rattle.jf_answers.specs.Explains.{Timeline, Answered, IsAnswered, AreAnswered, Looks, Changes, GivesEntry, HasFloor, answer_with, floor_in, state_after}
+use Rattle.jf_answers.specs.Explains.{Timeline, Answered, IsAnswered, AreAnswered, Looks, HasAnsweredChange, GivesEntry, HasFloor, answer_with, floor_in, state_after}
 use Rattle.jf_history.specs.Laws.{AnswersStay}
 
 get_front : (xs ys : List Entry) (i : ℕ) (x : Entry) → slice_get xs i ≡ Some x → slice_get (xs ++ ys) i ≡ Some x
@@ -48,7 +48,7 @@ module _ (s : State) (pins : List ℕ) (es more : List Entry) where
         by_itself = l.by_itself;
       }
 
-  pub changes_later : (own : Own) (seen : ℕ) (line : List ℕ) (r : Answered) → r.number ≤ length es → Changes short own seen line r → Changes long own seen line r
+  pub changes_later : (own : Own) (seen : ℕ) (line : List ℕ) (r : Answered) → r.number ≤ length es → HasAnsweredChange short own seen line r → HasAnsweredChange long own seen line r
   changes_later own seen line r within c =
       let e = same_state (r.number - 1) (omega arith) in
       record {

@@ -20,7 +20,7 @@ use Rattle.jf_answers.specs.Answers.{Answer, answer}
 use Rattle.jf_answers.specs.Runs.{Run, answers_from, answers, answer_text, texts_of, run_entries}
 use Rattle.jf_answers.proofs.AnswerLaws.{IsOf, Follows, answer-IsSoundAnswer}
 use Rattle.jf_answers.proofs.OneSession.{element-seam, length-push}
-use Rattle.jf_answers.specs.Explains.{Timeline, state_after, answer_with, floor_in, GivesEntry, Answered, Looks, Changes, IsAnswered, AreAnswered, own_after_replies, places_told, places_owned}
+use Rattle.jf_answers.specs.Explains.{Timeline, state_after, answer_with, floor_in, GivesEntry, Answered, Looks, HasAnsweredChange, IsAnswered, AreAnswered, own_after_replies, places_in_reply, places_owned}
 use Rattle.jf_history.specs.Sessions.{Session, HeldFloor, seen_by, timeline}
 use Rattle.jf_history.specs.Runs.{AreHeld, HasAnswered}
 use Rattle.jf_history.specs.Laws.{OneSessionIsAlone, OneSessionTries, OneSessionIsNeverBroken}
@@ -30,18 +30,18 @@ use Rattle.jf_history.proofs.HeldFloors.{floors_of, HaveMet-floors, answer_with-
 -- ---- numbers
 
 -- the next line that gives an entry gives a later one than any that was seen
-told-later : (h : Timeline) (own : Own) (seen p : ℕ) (ls : List (List ℕ)) (rs : List Answered) (ps : List ℕ) → AreAnswered h own seen ls rs → places_told rs ≡ p ∷ ps → seen < p
+told-later : (h : Timeline) (own : Own) (seen p : ℕ) (ls : List (List ℕ)) (rs : List Answered) (ps : List ℕ) → AreAnswered h own seen ls rs → places_in_reply rs ≡ p ∷ ps → seen < p
 told-later h own seen p ls [] ps a e = absurd (cc)
 told-later h own seen p [] (r ∷ rs) ps a e = absurd a
 told-later h own seen p (line ∷ ls) (r ∷ rs) ps a e = elim a.0.answered as (λ o. seen < p) [
   | inl l ↦ (
-      let told : places_told rs ≡ p ∷ ps = sym (ap (λ (o : Option Entry). cond (is_some o) (r.number ∷ places_told rs) (places_told rs)) l.none) ∙ e in
+      let told : places_in_reply rs ≡ p ∷ ps = sym (ap (λ (o : Option Entry). cond (is_some o) (r.number ∷ places_in_reply rs) (places_in_reply rs)) l.none) ∙ e in
       let more = told-later h r.own r.number p ls rs ps a.1 told in
       let rises = a.0.rises in
       omega arith
       )
   | inr c ↦ (
-      let told : r.number ∷ places_told rs ≡ p ∷ ps = sym (ap (λ (o : Option Entry). cond (is_some o) (r.number ∷ places_told rs) (places_told rs)) c.kept) ∙ e in
+      let told : r.number ∷ places_in_reply rs ≡ p ∷ ps = sym (ap (λ (o : Option Entry). cond (is_some o) (r.number ∷ places_in_reply rs) (places_in_reply rs)) c.kept) ∙ e in
       let same : r.number ≡ p = cc in
       let later = c.later in
       omega arith
@@ -92,7 +92,7 @@ module _ (start : Start) (pins : List ℕ) (events : List Event) (one : start.pa
         ap (state_after h) e ∙ ap (λ (es : List Entry). replay h.start (take (length done) es)) w.split ∙ ap (replay h.start) (take-append_seam done left) ∙ sym w.at
 
     -- ---- a line that gives no entry
-    quiet_number : (done left : List Entry) → Reached h s own seen done left → IsAnswered h own seen line r → AreAnswered h r.own r.number ls rs → places_told rs ≡ places_owned 0 seen left → r.number ≡ length done
+    quiet_number : (done left : List Entry) → Reached h s own seen done left → IsAnswered h own seen line r → AreAnswered h r.own r.number ls rs → places_in_reply rs ≡ places_owned 0 seen left → r.number ≡ length done
     quiet_number done [] w is more told =
         let within = is.within in
         let rises = is.rises in
@@ -145,7 +145,7 @@ module _ (start : Start) (pins : List ℕ) (events : List Event) (one : start.pa
           }
 
     -- ---- a line that gives an entry
-    module _ (done : List Entry) (e : Entry) (left : List Entry) (w : Reached h s own seen done (e ∷ left)) (c : Changes h own seen line r) (held : IfSome r.entry (HeldFloor start own (state_after h (r.number - 1)))) (number : r.number ≡ seen + 1) where
+    module _ (done : List Entry) (e : Entry) (left : List Entry) (w : Reached h s own seen done (e ∷ left)) (c : HasAnsweredChange h own seen line r) (held : IfSome r.entry (HeldFloor start own (state_after h (r.number - 1)))) (number : r.number ≡ seen + 1) where
       before_is : r.number - 1 ≡ length done
       before_is = let seen_is = w.seen_is in omega arith
 
@@ -214,21 +214,21 @@ module _ (start : Start) (pins : List ℕ) (events : List Event) (one : start.pa
   -- ---- all lines
   abbrev Goal : List Answered → Type 0
   Goal rs = (s : State) (own : Own) (seen : ℕ) (ls : List (List ℕ)) (done left : List Entry) → Reached h s own seen done left → AreAnswered h own seen ls rs → AreHeld start h.entries own rs
-      → places_told rs ≡ places_owned 0 seen left → length rs ≡ length ls → Agrees s own ls rs left
+      → places_in_reply rs ≡ places_owned 0 seen left → length rs ≡ length ls → Agrees s own ls rs left
 
   change_first : (r : Answered) (rs : List Answered) → Goal rs → (s : State) (own : Own) (seen : ℕ) (line : List ℕ) (ls : List (List ℕ)) (done left : List Entry) → Reached h s own seen done left
-      → Changes h own seen line r → AreAnswered h r.own r.number ls rs → IfSome r.entry (HeldFloor start own (state_after h (r.number - 1))) → AreHeld start h.entries r.own rs
-      → r.number ∷ places_told rs ≡ places_owned 0 seen left → length rs ≡ length ls → Agrees s own (line ∷ ls) (r ∷ rs) left
+      → HasAnsweredChange h own seen line r → AreAnswered h r.own r.number ls rs → IfSome r.entry (HeldFloor start own (state_after h (r.number - 1))) → AreHeld start h.entries r.own rs
+      → r.number ∷ places_in_reply rs ≡ places_owned 0 seen left → length rs ≡ length ls → Agrees s own (line ∷ ls) (r ∷ rs) left
   change_first r rs later s own seen line ls done [] w c more held helds told same = absurd (cc)
   change_first r rs later s own seen line ls done (e ∷ left) w c more held helds told same =
-      let both : r.number ∷ places_told rs ≡ (seen + 1) ∷ places_owned 0 (seen + 1) left = told ∙ owned-first seen e left w.owned.0 in
+      let both : r.number ∷ places_in_reply rs ≡ (seen + 1) ∷ places_owned 0 (seen + 1) left = told ∙ owned-first seen e left w.owned.0 in
       let number : r.number ≡ seen + 1 = cc in
-      let told' : places_told rs ≡ places_owned 0 (seen + 1) left = cc in
+      let told' : places_in_reply rs ≡ places_owned 0 (seen + 1) left = cc in
       agrees_change s own seen line ls r rs done e left w c held number
       (later (answer s own line).state r.own r.number ls (done ++ e ∷ []) left (reached_change s own seen line ls r rs done e left w c held number) more helds (told' ∙ ap (λ n. places_owned 0 n left) (sym number)) same)
 
   quiet_first : (r : Answered) (rs : List Answered) → Goal rs → (s : State) (own : Own) (seen : ℕ) (line : List ℕ) (ls : List (List ℕ)) (done left : List Entry) → Reached h s own seen done left
-      → IsAnswered h own seen line r → Looks h own seen line r → AreAnswered h r.own r.number ls rs → AreHeld start h.entries r.own rs → places_told rs ≡ places_owned 0 seen left → length rs ≡ length ls → Agrees s own (line ∷ ls) (r ∷ rs) left
+      → IsAnswered h own seen line r → Looks h own seen line r → AreAnswered h r.own r.number ls rs → AreHeld start h.entries r.own rs → places_in_reply rs ≡ places_owned 0 seen left → length rs ≡ length ls → Agrees s own (line ∷ ls) (r ∷ rs) left
   quiet_first r rs later s own seen line ls done left w is l more helds told same =
       let number = quiet_number s own seen line ls r rs done left w is more told in
       agrees_quiet s own seen line ls r rs done left w l number
@@ -242,9 +242,9 @@ module _ (start : Start) (pins : List ℕ) (events : List Event) (one : start.pa
       let fewer : length rs ≡ length ls = omega arith in
       elim a.0.answered as (λ o. Agrees s own (line ∷ ls) (r ∷ rs) left) [
         | inl l ↦ quiet_first r rs (agree rs) s own seen line ls done left w a.0 l a.1 held.1
-            (sym (ap (λ (o : Option Entry). cond (is_some o) (r.number ∷ places_told rs) (places_told rs)) l.none) ∙ told) fewer
+            (sym (ap (λ (o : Option Entry). cond (is_some o) (r.number ∷ places_in_reply rs) (places_in_reply rs)) l.none) ∙ told) fewer
         | inr c ↦ change_first r rs (agree rs) s own seen line ls done left w c a.1 held.0 held.1
-            (sym (ap (λ (o : Option Entry). cond (is_some o) (r.number ∷ places_told rs) (places_told rs)) c.kept) ∙ told) fewer
+            (sym (ap (λ (o : Option Entry). cond (is_some o) (r.number ∷ places_in_reply rs) (places_in_reply rs)) c.kept) ∙ told) fewer
       ]
 
 -- ---- the laws
@@ -256,7 +256,7 @@ owners_none (Mark pass e ∷ xs) h = owners_none xs h.1
 
 -- the first replies, as long as all entries are theirs
 pub agrees-from : (start : Start) (events : List Event) (ls : List (List ℕ)) (rs : List Answered) → start.passes ≡ 1 → start.state.count ≡ 0 → AreEvents start events
-    → AreAnswered (timeline start (floors_of events) events) (begun_session 0) 0 ls rs → AreHeld start (entries_among events) (begun_session 0) rs → places_owned 0 0 (entries_among events) ≡ places_told rs → length rs ≡ length ls
+    → AreAnswered (timeline start (floors_of events) events) (begun_session 0) 0 ls rs → AreHeld start (entries_among events) (begun_session 0) rs → places_owned 0 0 (entries_among events) ≡ places_in_reply rs → length rs ≡ length ls
     → Agrees start.state (begun_session 0) ls rs (entries_among events)
 unfolding replay
 agrees-from start events ls rs one none are answered held places same =

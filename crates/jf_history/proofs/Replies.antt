@@ -18,7 +18,7 @@ use Rattle.jf_store.proofs.ClosingLaws.{starts_further}
 use Rattle.jf_answers.specs.Answers.{answer}
 use Rattle.jf_answers.specs.Runs.{answer_text}
 use Rattle.jf_answers.proofs.OneSession.{element-seam, length-push}
-use Rattle.jf_answers.specs.Explains.{Looks, Changes, GivesEntry, answer_with, floor_in, state_after, places_owned}
+use Rattle.jf_answers.specs.Explains.{Looks, HasAnsweredChange, GivesEntry, answer_with, floor_in, state_after, places_owned}
 use Rattle.jf_history.specs.Sessions.{Session, HaveMet, HeldFloor, FollowsLine, HasLooked, HasChanged, look_reply, change_reply, seen_by, timeline}
 use Rattle.jf_history.specs.Laws.{LooksReply, ChangesReply}
 use Rattle.jf_history.proofs.Places.{places_append, places_on}
@@ -76,7 +76,7 @@ module _ (start : Start) (old new : Session) (before : List Event) (e : Entry) (
       ap (state_after (timeline start pins new.pass.seen)) one_back ∙ ap (λ (es : List Entry). replay start.state (take (length (entries_among before)) es)) entries_are
       ∙ ap (replay start.state) (take-append_seam (entries_among before) (e ∷ []))
 
-  changes : (pins : List ℕ) → HaveMet pins start new.pass.seen → Changes (timeline start pins new.pass.seen) old.own (length (seen_by old.pass)) line (change_reply start old before e line)
+  changes : (pins : List ℕ) → HaveMet pins start new.pass.seen → HasAnsweredChange (timeline start pins new.pass.seen) old.own (length (seen_by old.pass)) line (change_reply start old before e line)
   changes pins met =
       let back = sym (at_entry pins) in
       record {

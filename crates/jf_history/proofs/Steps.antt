@@ -13,7 +13,7 @@ use Rattle.jf_store.proofs.EventLaws.{entries_of-append}
 use Rattle.jf_store.proofs.ClosingLaws.{starts_further}
 use Rattle.jf_answers.specs.Own.{Own, begun_session}
 use Rattle.jf_answers.specs.OwnLines.{pin_of}
-use Rattle.jf_answers.specs.Explains.{Timeline, IsAmong, Answered, IsAnswered, AreAnswered, own_after_replies, places_told, places_owned}
+use Rattle.jf_answers.specs.Explains.{Timeline, IsAmong, Answered, IsAnswered, AreAnswered, own_after_replies, places_in_reply, places_owned}
 use Rattle.jf_history.specs.Sessions.{Session, HaveMet, HeldFloor, HasReplied, seen_by, timeline, entry_place}
 use Rattle.jf_history.specs.Runs.{AreHeld, HasAnswered}
 use Rattle.jf_history.specs.Laws.{NoneAnswered, OneMoreAnswered}
@@ -58,16 +58,16 @@ module _ (start : Start) (old : Pass) (mid new : Session) (ls : List (List ℕ))
   held_more : AreHeld start (seen_by new.pass) (begun_session old.number) (rs ++ r ∷ [])
   held_more =
       let within =
-      all_back (λ n. n ≤ length (seen_by mid.pass)) (places_owned old.number 0 (seen_by old)) (places_told rs)
+      all_back (λ n. n ≤ length (seen_by mid.pass)) (places_owned old.number 0 (seen_by old)) (places_in_reply rs)
       (subst (AllByRecursion (λ n. n ≤ length (seen_by mid.pass))) a.places (places_owned-within old.number 0 (length (seen_by mid.pass)) (seen_by mid.pass) (omega arith))) in
       let before = AreHeld-later start (seen_by mid.pass) (entries_among more) (begun_session old.number) rs within a.held in
       AreHeld-push start (seen_by new.pass) (begun_session old.number) rs r (subst (λ (es : List Entry). AreHeld start es (begun_session old.number) rs) (sym entries_more) before)
       (subst (λ (o : Own). IfSome r.entry (HeldFloor start o (replay start.state (take (r.number - 1) (seen_by new.pass))))) a.own t.held)
 
-  places_more : places_owned old.number 0 (seen_by new.pass) ≡ places_owned old.number 0 (seen_by old) ++ places_told (rs ++ r ∷ [])
+  places_more : places_owned old.number 0 (seen_by new.pass) ≡ places_owned old.number 0 (seen_by old) ++ places_in_reply (rs ++ r ∷ [])
   places_more =
       subst (λ (n : ℕ). places_owned n 0 (seen_by new.pass) ≡ places_owned n 0 (seen_by mid.pass) ++ entry_place r) number_same t.places ∙ ap (λ ns. ns ++ entry_place r) a.places
-      ∙ append_assoc (places_owned old.number 0 (seen_by old)) (places_told rs) (entry_place r) ∙ ap (λ ns. places_owned old.number 0 (seen_by old) ++ ns) (sym (places_told-push rs r))
+      ∙ append_assoc (places_owned old.number 0 (seen_by old)) (places_in_reply rs) (entry_place r) ∙ ap (λ ns. places_owned old.number 0 (seen_by old) ++ ns) (sym (places_told-push rs r))
 
 pub one_more_answered : OneMoreAnswered
 one_more_answered start old mid new ls rs line r a t = record {

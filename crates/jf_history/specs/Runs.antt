@@ -11,7 +11,7 @@ use Rattle.jf_store.specs.Starts.{Start}
 use Rattle.jf_store.specs.Passes.{Pass}
 use Rattle.jf_answers.specs.Own.{Own, begun_session}
 use Rattle.jf_answers.specs.OwnLines.{pin_of}
-use Rattle.jf_answers.specs.Explains.{IsAmong, Answered, AreAnswered, own_after_replies, seen_after_replies, places_owned, places_told, text_in}
+use Rattle.jf_answers.specs.Explains.{IsAmong, Answered, AreAnswered, own_after_replies, seen_after_replies, places_owned, places_in_reply, text_in}
 use Rattle.jf_history.specs.Sessions.{Session, HoldsPins, HaveMet, HeldFloor, timeline, seen_by, IsTry, IsBroken, HasDoneNothing}
 use Rattle.jf_history.specs.declared.end.End.{End}
 use Rattle.jf_history.specs.declared.end.End.TheVariants as end
@@ -32,7 +32,7 @@ pub record HasAnswered (start : Start) (old : Pass) (now : Session) (ls : List (
   pub all : length rs ≡ length ls
   pub answered : (pins : List ℕ) → HaveMet pins start now.pass.seen → AreAnswered (timeline start pins now.pass.seen) (begun_session old.number) (length (seen_by old)) ls rs
   pub held : AreHeld start (seen_by now.pass) (begun_session old.number) rs
-  pub places : places_owned old.number 0 (seen_by now.pass) ≡ places_owned old.number 0 (seen_by old) ++ places_told rs
+  pub places : places_owned old.number 0 (seen_by now.pass) ≡ places_owned old.number 0 (seen_by old) ++ places_in_reply rs
   pub own : now.own ≡ own_after_replies (begun_session old.number) rs
   pub number : seen_after_replies (length (seen_by old)) rs ≡ length (seen_by now.pass)
 

@@ -155,7 +155,7 @@ fn end_through<M: LineMachine, K: Sink>(
     requires { M.ready machine.old }
     ensures ended { (put : List ℕ) × IsPutNext is_cut result.is_cut (K.text sink.old) (K.text sink.new) put × EndsAfter M.ends result.how machine.old machine.new (Some []) (Some put) }
     ensures unstopped { result.how ≢ Feeding.WriteFault }
-    ensures read { result.how ≢ Feeding.ReadFault }
+    ensures unread_fault { result.how ≢ Feeding.ReadFault }
     ensures cause { result.is_cut ≡ true → (is_cut ≡ true) ⊎ HasCause (K.faults sink.old) (K.faults sink.new) }
     ensures counts { K.faults sink.old ≤ K.faults sink.new }
 {

@@ -32,6 +32,7 @@ pub trait Sink {
 
     /// The number of failed calls so far, which stays at `u64::MAX`.
     fn faults(&self) -> u64
+        // The result is the count of failed calls.
         ensures { result ≡ faults self.now };
 }
 
@@ -44,7 +45,7 @@ pub fn put_all<K: Sink>(sink: &mut K, bytes: &[u8]) -> Result<(), IoFailed>
     // After an error the text, if known, is the old one followed by a front of `bytes`, but not all of them.
     ensures cut_short { OnErr result (IsCutShort (K.text sink.old) (K.text sink.new) bytes.now) }
     // If there are no bytes, the result is `Ok` and the sink is unchanged.
-    ensures nothing_to_put { bytes.now ≡ [] → IsOk result × (sink.new ≡ sink.old) }
+    ensures empty { bytes.now ≡ [] → IsOk result × (sink.new ≡ sink.old) }
     // The count of faults doesn't fall.
     ensures counts { K.faults sink.old ≤ K.faults sink.new }
     // After an error the count of faults rose, or stood at `u64::MAX` before.

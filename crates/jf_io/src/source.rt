@@ -50,9 +50,11 @@ pub trait Source {
 
     /// The number of bytes given so far.
     fn taken_count(&self) -> u64
+        // The result is the number of bytes given.
         ensures { result ≡ given self.now };
 
     /// The number of failed calls so far, which stays at `u64::MAX`.
     fn faults(&self) -> u64
+        // The result is the count of failed calls.
         ensures { result ≡ faults self.now };
 }

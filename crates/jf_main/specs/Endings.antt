@@ -24,8 +24,8 @@ refusal_cause refused.Memory = None
 
 -- why the disk failed, after a call with this status that handed it back: what the disk says; one in memory says nothing,
 -- and fails only if its room is used up
-abbrev pub told_cause : Status → AnyDisk → Option FaultCause
-told_cause s disk = if is_disk_fault s then Some (unwrap_or (any_cause disk) cause.NoRoom) else None
+abbrev pub disk_cause : Status → AnyDisk → Option FaultCause
+disk_cause s disk = if is_disk_fault s then Some (unwrap_or (any_cause disk) cause.NoRoom) else None
 
 -- the note if no command line could be made of the arguments: an example, unless memory ran out
 abbrev pub unread_note : Status → Option Note

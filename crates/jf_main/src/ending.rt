@@ -3,7 +3,7 @@ ghost use Rattle.std.specs.Prelude.{◌≡◌, Some, None};
 ghost use Rattle.std.specs.Process.{exit_status};
 ghost use Rattle.jf_run.specs.Statuses.{code_of};
 ghost use Rattle.jf_main.specs.Checks.{end_cause, end_status};
-ghost use Rattle.jf_main.specs.Endings.{refusal_cause, refusal_status, told_cause, unread_note};
+ghost use Rattle.jf_main.specs.Endings.{refusal_cause, refusal_status, disk_cause, unread_note};
 
 use crate::note::Note;
 use jf_folder::{AnyDisk, FaultCause, FileRefused};
@@ -76,7 +76,7 @@ impl Ending {
     /// The end after a call of the program that handed back this disk, with this note.
     pub(crate) fn of_call(status: Status, disk: &AnyDisk, note: Option<Note>) -> Ending
         ensures status { result.status ≡ status }
-        ensures reason { result.cause ≡ told_cause status disk.now }
+        ensures reason { result.cause ≡ disk_cause status disk.now }
         ensures note { result.note ≡ note }
     {
         match status {

@@ -42,7 +42,7 @@ pub(crate) fn answer_over_map<S: Source, K: Sink>(
 // The names of a source, read to its end, or to the first line that is refused.
 fn read_names<S: Source>(alloc: Global, source: &mut S) -> Result<NameMap, NamesFault>
     ensures names { IfOk result (λ es. HasNames es (S.rest source.old) (S.rest source.new)) }
-    ensures stop { IfErr result (λ why. StopsNames why (S.rest source.old) (S.rest source.new)) }
+    ensures stopped { IfErr result (λ why. StopsNames why (S.rest source.old) (S.rest source.new)) }
     ensures cause { result ≡ Err NamesFault.ReadFault → HasCause (S.faults source.old) (S.faults source.new) }
     ensures counts { S.faults source.old ≤ S.faults source.new }
 {

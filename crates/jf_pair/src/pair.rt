@@ -48,7 +48,7 @@ impl Pair {
     pub fn open<D: Disk>(alloc: Global, disk: &mut D) -> Result<(Pair, Option<Log>), PairFault>
         ensures in_step { (h : History) → D.history disk.old ≡ Some h → IfOk result (λ r. (g : History) × (D.history disk.new ≡ Some g) × IsInStep r.0 (read_by r.1) g.now) }
         ensures found { (h : History) → D.history disk.old ≡ Some h → IfOk result (λ r. HoldsLive (reads h) (read_by r.1)) }
-        ensures none { IfOk result (λ r. (r.1 ≡ None) ↔ (r.0.is_live ≡ false)) }
+        ensures given { IfOk result (λ r. (r.1 ≡ None) ↔ (r.0.is_live ≡ false)) }
         ensures first { IfOk result (λ r. r.0.is_live ≡ false → r.0.side ≡ Side.B) }
         ensures sound { IfOk result (λ r. r.0.failed ≡ false) }
         ensures log { IfOk result (λ r. IfSome r.1 (λ log. (log.side ≡ r.0.side) × (log.offset ≡ r.0.offset) × (log.failed ≡ false))) }
@@ -157,7 +157,7 @@ fn pair_of(alloc: Global, live: Log, other: Log) -> (Pair, Option<Log>)
     ensures sound { result.0.failed ≡ false }
     ensures records { read_by result.1 ≡ live.records }
     ensures live { (result.0.is_live ≡ true) ↔ (0 < length live.records) }
-    ensures none { (result.1 ≡ None) ↔ (result.0.is_live ≡ false) }
+    ensures given { (result.1 ≡ None) ↔ (result.0.is_live ≡ false) }
     ensures log { IfSome result.1 (λ log. (log ≡ live) × (0 < length log.records)) }
 {
     let is_live = live.count() > 0;

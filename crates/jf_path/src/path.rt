@@ -157,7 +157,7 @@ impl NibblePath {
 
     // The path of `count` packed nibbles, of which an odd last byte has a zero low half.
     fn of_packed(bytes: &[u8], count: u8) -> NibblePath
-        requires short { count ≤ 64 }
+        requires bounded { count ≤ 64 }
         requires long { length bytes.now ≡ (count + 1) / 2 }
         requires end { count % 2 ≡ 1 → slice_index bytes.now (count / 2) % 16 ≡ 0 }
         ensures { result ≡ take count (halves bytes.now) }

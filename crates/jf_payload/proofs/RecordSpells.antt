@@ -12,7 +12,7 @@ use Rattle.jf_path.proofs.BoolLaws.{left_true, right_true}
 use Rattle.jf_codec.specs.Spelling.{IsNode, name_bytes, node_bytes}
 use Rattle.jf_codec.specs.declared.format.Format.{Format}
 use Rattle.jf_payload.specs.Reading.{fresh_rise, live_rise, any_hashes, Front, both_at, only_if, many_at, list_at, long_at, named_at, format_node_at, fresh_at, live_at, any, hash_at, commit_from, commit_at, is_group, group_at, Numbers, are_within, numbers_at, roots_at}
-use Rattle.jf_payload.specs.Spelling.{follow, list_bytes, fresh_bytes, live_bytes, commit_bytes, IsCommit, IsGroup, IsCheckpoint}
+use Rattle.jf_payload.specs.Spelling.{are_consecutive, list_bytes, fresh_bytes, live_bytes, commit_bytes, IsCommit, IsGroup, IsCheckpoint}
 use Rattle.jf_payload.specs.declared.records.Commit.{Commit}
 use Rattle.jf_payload.proofs.Spells.{HoldsOfFronts, Spells, both_spells, only_spells, seen_spells, many_spells}
 use Rattle.jf_payload.proofs.FieldSpells.{number_spells, name_spells, node_spells, hash_spells}
@@ -32,7 +32,7 @@ live-front front back e = are_rising-front (map (λ x. x.0) front) (map (λ x. x
 hashes-front : HoldsOfFronts any_hashes
 hashes-front front back e = refl
 
-follow-front : HoldsOfFronts follow
+follow-front : HoldsOfFronts are_consecutive
 follow-front [] back e = refl
 follow-front (c ∷ []) back e = refl
 follow-front (c ∷ d ∷ front) back e = and_from _ _ (left_true _ _ e) (follow-front (d ∷ front) back (right_true _ _ e))
@@ -102,16 +102,16 @@ commit_spells fmt =
     (λ c is. record { version = is.0.0.0; root = is.0.0.1; fresh = is.0.1.all; fresh_count = is.0.1.count; fresh_rise = is.0.1.passed; stale = is.1.all; stale_count = is.1.count; stale_rise = is.1.passed })
     (λ c is. (((is.version, is.root), record { count = is.fresh_count; inside = refl; all = is.fresh; passed = is.fresh_rise }), record { count = is.stale_count; inside = refl; all = is.stale; passed = is.stale_rise }))
 
-to_group : (fmt : Format) (cs : List Commit) → IsList is_group follow (IsCommit fmt) cs → IsGroup fmt cs
+to_group : (fmt : Format) (cs : List Commit) → IsList is_group are_consecutive (IsCommit fmt) cs → IsGroup fmt cs
 to_group fmt cs is = record { many = leb-true _ _ (left_true _ _ is.inside); few = leb-true _ _ (right_true _ _ is.inside); commits = is.all; versions = is.passed }
 
-from_group : (fmt : Format) (cs : List Commit) → IsGroup fmt cs → IsList is_group follow (IsCommit fmt) cs
+from_group : (fmt : Format) (cs : List Commit) → IsGroup fmt cs → IsList is_group are_consecutive (IsCommit fmt) cs
 from_group fmt cs is = record { count = let few = is.few in omega arith; inside = and_from _ _ (le-leb _ _ is.many) (le-leb _ _ is.few); all = is.commits; passed = is.versions }
 
 pub group_spells : (fmt : Format) → Spells (list_bytes (commit_bytes fmt)) (IsGroup fmt) (group_at fmt)
 unfolding group_at
 group_spells fmt =
-    let list = list_spells (commit_bytes fmt) (IsCommit fmt) (commit_at fmt) is_group follow (commit_spells fmt) refl follow-front in
+    let list = list_spells (commit_bytes fmt) (IsCommit fmt) (commit_at fmt) is_group are_consecutive (commit_spells fmt) refl follow-front in
     record {
       takes = λ bytes x bs e. let t = list.takes bytes x bs e in (t.0, to_group fmt x.0 t.1);
       again = λ cs rest is. list.again cs rest (from_group fmt cs is);

@@ -6,7 +6,7 @@ use Rattle.jf_path.specs.Names.{are_rising, name_cmp}
 use Rattle.jf_path.specs.declared.name.NodeName.{NodeName}
 use Rattle.jf_path.proofs.BoolLaws.{right_true, and_true}
 use Rattle.jf_payload.specs.declared.records.Commit.{Commit}
-use Rattle.jf_payload.specs.Spelling.{follow}
+use Rattle.jf_payload.specs.Spelling.{are_consecutive}
 
 second_alone : (a b c : Bool) → (a && b) ≡ true → (a && c) ≡ c
 second_alone true b c e = refl
@@ -37,14 +37,14 @@ names-after x xs last there up =
     ap are_rising (sym (names-map (xs ++ x ∷ []))) ∙ are_rising-after (λ n. n) x xs last there (ap are_rising (names-map xs) ∙ up)
 
 -- ---- versions
-follows : (c : Commit) (cs : List Commit) (n : ℕ) (last : Commit) → slice_get cs n ≡ Some last → suc n ≡ length cs → follow cs ≡ true → follow (cs ++ c ∷ []) ≡ (c.version == last.version + 1)
+follows : (c : Commit) (cs : List Commit) (n : ℕ) (last : Commit) → slice_get cs n ≡ Some last → suc n ≡ length cs → are_consecutive cs ≡ true → are_consecutive (cs ++ c ∷ []) ≡ (c.version == last.version + 1)
 follows c [] n last there long up = absurd cc
 follows c (d ∷ []) zero last there long up = and_true _ ∙ ap (λ (z : Commit). c.version == z.version + 1) (same_Some d last there)
 follows c (d ∷ []) (suc n) last there long up = absurd (omega arith)
 follows c (d ∷ e ∷ cs) zero last there long up = absurd (omega arith)
 follows c (d ∷ e ∷ cs) (suc n) last there long up = second_alone _ _ _ up ∙ follows c (e ∷ cs) n last there (omega arith) (right_true _ _ up)
 
-pub follow-after : (c : Commit) (cs : List Commit) (last : Commit) → slice_get cs (length cs - 1) ≡ Some last → follow cs ≡ true → follow (cs ++ c ∷ []) ≡ (c.version == last.version + 1)
+pub follow-after : (c : Commit) (cs : List Commit) (last : Commit) → slice_get cs (length cs - 1) ≡ Some last → are_consecutive cs ≡ true → are_consecutive (cs ++ c ∷ []) ≡ (c.version == last.version + 1)
 follow-after c cs last there up =
     let within = slice_get_within cs (length cs - 1) last there in
     follows c cs (length cs - 1) last there (omega arith) up

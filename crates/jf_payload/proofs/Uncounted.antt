@@ -14,7 +14,7 @@ use Rattle.jf_codec.specs.declared.format.Format.{Format}
 use Rattle.jf_codec.specs.declared.format.Format.TheVariants as format
 use Rattle.jf_payload.specs.Counted.{nodes_in, commit_in}
 use Rattle.jf_payload.specs.declared.records.Commit.{Commit}
-use Rattle.jf_payload.specs.Spelling.{IsCommit, follow}
+use Rattle.jf_payload.specs.Spelling.{IsCommit, are_consecutive}
 use Rattle.jf_payload.specs.Laws.{WrittenInBoth}
 use Rattle.jf_payload.specs.declared.records.Record.TheVariants as «record»
 
@@ -71,7 +71,7 @@ commits-written : (fmt : Format) (cs : List Commit) → AllByRecursion (IsCommit
 commits-written fmt [] all = tt
 commits-written fmt (c ∷ cs) all = (commit-written fmt c all.0, commits-written fmt cs all.1)
 
-follow-written : (fmt : Format) (cs : List Commit) → follow (map (commit_in fmt) cs) ≡ follow cs
+follow-written : (fmt : Format) (cs : List Commit) → are_consecutive (map (commit_in fmt) cs) ≡ are_consecutive cs
 follow-written fmt [] = refl
 follow-written fmt (c ∷ []) = refl
 follow-written fmt (c ∷ d ∷ cs) = ap (λ b. (d.version == c.version + 1) && b) (follow-written fmt (d ∷ cs))

@@ -14,7 +14,7 @@ use Rattle.jf_codec.specs.declared.format.Format.TheVariants as format
 use Rattle.jf_payload.specs.declared.fault.RecordFault.{RecordFault}
 use Rattle.jf_payload.specs.declared.records.Commit.{Commit}
 use Rattle.jf_payload.specs.declared.records.Record.{Record}
-use Rattle.jf_payload.specs.Spelling.{follow, checkpoint_kind}
+use Rattle.jf_payload.specs.Spelling.{are_consecutive, checkpoint_kind}
 use Rattle.jf_payload.specs.declared.fault.RecordFault.TheVariants as fault
 use Rattle.jf_payload.specs.declared.records.Record.TheVariants as «record»
 
@@ -178,7 +178,7 @@ is_group n = nat_le 2 n && nat_le n max_forks
 
 -- a group: a list of landings whose versions rise by one
 unfoldable pub group_at : Format → Front (List Commit)
-group_at fmt = list_at is_group follow (commit_at fmt)
+group_at fmt = list_at is_group are_consecutive (commit_at fmt)
 
 -- a record of a kind at the front of bytes
 unfoldable pub record_at : Format → ℕ → Front Record

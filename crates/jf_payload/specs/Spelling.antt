@@ -77,17 +77,17 @@ pub record IsCheckpoint (fmt : Format) (generation base floor head : ℕ) (roots
   pub names_rise : IsTrue (are_rising (map (λ n. n.0) nodes))
 
 -- the versions of landings rise by one
-abbrev pub follow : List Commit → Bool
-follow [] = true
-follow (c ∷ []) = true
-follow (c ∷ d ∷ cs) = (d.version == c.version + 1) && follow (d ∷ cs)
+abbrev pub are_consecutive : List Commit → Bool
+are_consecutive [] = true
+are_consecutive (c ∷ []) = true
+are_consecutive (c ∷ d ∷ cs) = (d.version == c.version + 1) && are_consecutive (d ∷ cs)
 
 -- a group can be spelled: 2 to 1,024 landings, whose versions rise by one
 pub record IsGroup (fmt : Format) (cs : List Commit) : Type 0 where
   pub many : 2 ≤ length cs
   pub few : length cs ≤ max_forks
   pub commits : AllByRecursion (IsCommit fmt) cs
-  pub versions : IsTrue (follow cs)
+  pub versions : IsTrue (are_consecutive cs)
 
 -- a record can be spelled in a format
 abbrev pub IsRecord : Format → Record → Type 0

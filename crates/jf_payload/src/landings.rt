@@ -1,6 +1,6 @@
 // A landing adds one version: its root, the nodes that it writes, and the names that it marks stale.
 ghost use Rattle.std.specs.Prelude.{◌≡◌, []};
-ghost use Rattle.jf_payload.specs.Spelling.{follow};
+ghost use Rattle.jf_payload.specs.Spelling.{are_consecutive};
 ghost use Rattle.jf_payload.specs.Reading.{Gives, many_at, commit_at, group_at};
 
 use crate::commits::Commits;
@@ -42,7 +42,7 @@ fn commits_of(
     count: u64,
     bytes: &[u8],
 ) -> Result<(Commits, &[u8]), RecordFault>
-    ensures { Gives (λ x. (x.0, x.1.now)) result (many_at follow (commit_at format) count [] bytes.now) }
+    ensures { Gives (λ x. (x.0, x.1.now)) result (many_at are_consecutive (commit_at format) count [] bytes.now) }
 {
     let mut commits = Commits::new(alloc);
     let mut rest = bytes;

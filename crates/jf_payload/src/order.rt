@@ -1,7 +1,7 @@
 // An item that was read is added to its list only if it may come after the last one.
 ghost use Rattle.std.specs.Prelude.{◌≡◌, ◌∷◌, ◌++◌, ◌+◌, ◌==◌, [], true, false, Err, OnOk, IsTrue};
 ghost use Rattle.jf_path.specs.Names.{are_rising};
-ghost use Rattle.jf_payload.specs.Spelling.{follow};
+ghost use Rattle.jf_payload.specs.Spelling.{are_consecutive};
 ghost use Rattle.jf_payload.specs.Reading.{fresh_rise, live_rise};
 
 use crate::commits::Commits;
@@ -92,8 +92,8 @@ fn is_above_by_one(version: u64, last: u64) -> bool
 
 // Whether the versions rise by one with this landing at the end.
 fn is_next_commit(commits: &Commits, commit: &Commit) -> bool
-    requires { follow commits.now ≡ true }
-    ensures { result ≡ follow (commits.now ++ commit.now ∷ []) }
+    requires { are_consecutive commits.now ≡ true }
+    ensures { result ≡ are_consecutive (commits.now ++ commit.now ∷ []) }
 {
     let Some(last) = commits.as_slice().last() else {
         return true;
@@ -103,9 +103,9 @@ fn is_next_commit(commits: &Commits, commit: &Commit) -> bool
 
 /// Adds a landing at the end of a list whose versions rise by one. `Bad` if its version isn't the next one.
 pub(crate) fn push_commit(commits: &mut Commits, commit: Commit) -> Result<(), RecordFault>
-    requires { follow commits.old ≡ true }
-    ensures ok { OnOk result ((follow (commits.old ++ commit ∷ []) ≡ true) × (commits.new ≡ commits.old ++ commit ∷ [])) }
-    ensures bad { result ≡ Err RecordFault.Bad → follow (commits.old ++ commit ∷ []) ≡ false }
+    requires { are_consecutive commits.old ≡ true }
+    ensures ok { OnOk result ((are_consecutive (commits.old ++ commit ∷ []) ≡ true) × (commits.new ≡ commits.old ++ commit ∷ [])) }
+    ensures bad { result ≡ Err RecordFault.Bad → are_consecutive (commits.old ++ commit ∷ []) ≡ false }
 {
     if !is_next_commit(commits, &commit) {
         return Err(RecordFault::Bad);

@@ -126,7 +126,7 @@ impl Frontier {
     /// computed.
     pub fn chunk_root<L: Ledger>(&self, proof: &RangeProof, steps: &mut Steps<L>) -> Hash
         // There is at least one entry.
-        requires positive { IsSome self.now.last }
+        requires nonempty { IsSome self.now.last }
         // The depth of the proof is at most 256.
         requires depth { proof.now.depth ≤ 256 }
         // The proof has as many siblings as the last key has 0 bits among its first `depth` bits.

@@ -9,7 +9,7 @@ use Rattle.jf_blocks.specs.Reading.{Chunk, line_read, entry_of, side_of, chunk_o
 use Rattle.jf_blocks.specs.declared.chunk.ChunkHead.{ChunkHead}
 use Rattle.jf_receive.specs.declared.fault.BlockFault.{BlockFault}
 use Rattle.jf_receive.specs.declared.stage.Stage.{Stage}
-use Rattle.jf_receive.specs.Steps.{RestoringStep, adds_nothing, refuses, step_after_block, step_within_block, begun_at, head_step, with_entry, entry_step, with_sibling, sibling_step, block_step, restoring_line_step, next_at, Restoring, restoring_after, restoring_after_lines, begun_restoring, refusal_at_stage, end_by, restored_at_end}
+use Rattle.jf_receive.specs.Steps.{RestoringStep, adds_nothing, refuses, step_after_block, step_within_block, block_start, head_step, with_entry, entry_step, with_sibling, sibling_step, block_step, restoring_line_step, next_at, Restoring, restoring_after, restoring_after_lines, restoring_start, refusal_at_stage, end_by, restored_at_end}
 use Rattle.jf_receive.specs.declared.stage.Begun.{Begun}
 use Rattle.jf_receive.specs.Chunks.{refusal_decided_by, chunks}
 use Rattle.jf_receive.specs.Laws.{with_entries, RefusalsComeAtTheirLine, RefusalsStay}
@@ -45,7 +45,7 @@ step_within_block-leads n r b =
 
 first-leads : (n : ℕ) (r : RestoreValue) (o : Option ChunkHead) → LeadsTo n (head_step r n o).stage
 first-leads n r None = omega arith
-first-leads n r (Some head) = step_within_block-leads n r (begun_at n head)
+first-leads n r (Some head) = step_within_block-leads n r (block_start n head)
 
 entry-leads : (n : ℕ) (r : RestoreValue) (b : Begun) (o : Option (List ℕ × List ℕ)) → LeadsTo n (entry_step r n b o).stage
 entry-leads n r b None = omega arith
@@ -80,10 +80,10 @@ all_after n s (line ∷ ls) h =
     let e : n + 1 + length ls ≡ n + length (line ∷ ls) = omega arith in
     subst (λ m. IsAfterLines m (restoring_after_lines (restoring_after s line) ls).stage (restoring_after_lines (restoring_after s line) ls).at) e (all_after (n + 1) (restoring_after s line) ls (moves n s.restore s.at s.stage line h))
 
-after_begun : (r : RestoreValue) (ls : List (List ℕ)) → IsAfterLines (length ls) (restoring_after_lines (begun_restoring r) ls).stage (restoring_after_lines (begun_restoring r) ls).at
+after_begun : (r : RestoreValue) (ls : List (List ℕ)) → IsAfterLines (length ls) (restoring_after_lines (restoring_start r) ls).stage (restoring_after_lines (restoring_start r) ls).at
 after_begun r ls =
     let e : 0 + length ls ≡ length ls = omega arith in
-    subst (λ n. IsAfterLines n (restoring_after_lines (begun_restoring r) ls).stage (restoring_after_lines (begun_restoring r) ls).at) e (all_after 0 (begun_restoring r) ls refl)
+    subst (λ n. IsAfterLines n (restoring_after_lines (restoring_start r) ls).stage (restoring_after_lines (restoring_start r) ls).at) e (all_after 0 (restoring_start r) ls refl)
 
 -- after a refusal nothing changes
 pub refused_after : (r : RestoreValue) (at : ℕ) (s : Stage) (why : BlockFault) (line : List ℕ) → s ≡ stage.Refused why
@@ -113,7 +113,7 @@ decides r x n at (stage.Refused why) o h e = within_so n why h ∙ ap (refusal_d
 
 pub refusals-decided : RefusalsComeAtTheirLine
 refusals-decided r ls =
-    let s : Restoring = restoring_after_lines (begun_restoring r) ls in
+    let s : Restoring = restoring_after_lines (restoring_start r) ls in
     decides r s.restore (length ls) s.at s.stage (chunks r.root r.entries ls) (after_begun r ls) (chunks-lines r ls)
 
 -- ---- what stays
@@ -129,5 +129,5 @@ stays r at (stage.Refused w) why ms e = let same : w ≡ why = cc in refused_sta
 
 pub refusals-stay : RefusalsStay
 refusals-stay r ls ms why e =
-    let s : Restoring = restoring_after_lines (begun_restoring r) ls in
-    err_so r why (chunks r.root r.entries (ls ++ ms)) (sym (stays s.restore s.at s.stage why ms e) ∙ ap restored_at_end (sym (restoring_after_lines-append (begun_restoring r) ls ms)) ∙ chunks-lines r (ls ++ ms))
+    let s : Restoring = restoring_after_lines (restoring_start r) ls in
+    err_so r why (chunks r.root r.entries (ls ++ ms)) (sym (stays s.restore s.at s.stage why ms e) ∙ ap restored_at_end (sym (restoring_after_lines-append (restoring_start r) ls ms)) ∙ chunks-lines r (ls ++ ms))

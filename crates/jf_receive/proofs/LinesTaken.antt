@@ -8,7 +8,7 @@ use Rattle.jf_input.specs.Feeds.{given_of, Took}
 use Rattle.jf_input.proofs.Given.{given_alike}
 use Rattle.jf_receive.specs.Chunks.{chunks, refusal_decided_by}
 use Rattle.jf_receive.specs.Laws.{RefusalsComeAtTheirLine, LongChunkLinesAreAlike}
-use Rattle.jf_receive.specs.Steps.{Restoring, begun_restoring, restoring_after, restoring_after_lines, refusal_at_stage, line_result, out_of_memory}
+use Rattle.jf_receive.specs.Steps.{Restoring, restoring_start, restoring_after, restoring_after_lines, refusal_at_stage, line_result, out_of_memory}
 use Rattle.jf_receive.proofs.Deciding.{restoring_after_lines-append}
 use Rattle.jf_receive.specs.declared.fault.BlockFault.{BlockFault}
 use Rattle.jf_receive.specs.declared.fault.BlockFault.TheVariants as fault
@@ -89,7 +89,7 @@ new_restore version root = record { version = version; root = root; entries = []
 
 -- the state before its first line
 abbrev pub first : ℕ → List ℕ → Restoring
-first version root = begun_restoring (new_restore version root)
+first version root = restoring_start (new_restore version root)
 
 module _ (version : ℕ) (root : List ℕ) (next : Restoring) (ls : List (List ℕ)) (text : List ℕ) where
   module _ (took : Took TakesBlockLine (first version root) ls next text) (law : RefusalsComeAtTheirLine) where

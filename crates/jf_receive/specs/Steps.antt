@@ -19,8 +19,8 @@ pub record Restoring : Type 0 where
   pub stage : Stage
 
 -- the state before the first line
-abbrev pub begun_restoring : RestoreValue → Restoring
-begun_restoring r = record { restore = r; at = 1; stage = stage.Between }
+abbrev pub restoring_start : RestoreValue → Restoring
+restoring_start r = record { restore = r; at = 1; stage = stage.Between }
 
 -- out of memory: what is restored stays, and no later line is read
 abbrev pub out_of_memory : Restoring → Restoring
@@ -63,8 +63,8 @@ abbrev pub step_within_block : RestoreValue → Begun → RestoringStep
 step_within_block r b = if nat_lt 0 b.entries_left || nat_lt 0 b.siblings_left then adds_nothing r (stage.Block b) else step_at_block_end r b
 
 -- the block that begins at a line
-abbrev pub begun_at : ℕ → ChunkHead → Begun
-begun_at at head = record { first = at; entries_left = head.entries; siblings_left = head.siblings; entries = []; proof = record { depth = head.depth; siblings = [] } }
+abbrev pub block_start : ℕ → ChunkHead → Begun
+block_start at head = record { first = at; entries_left = head.entries; siblings_left = head.siblings; entries = []; proof = record { depth = head.depth; siblings = [] } }
 
 -- the block with one more entry, and one fewer to come
 abbrev pub with_entry : Begun → Entry → Begun
@@ -77,7 +77,7 @@ with_sibling b h = record { first = b.first; entries_left = b.entries_left; sibl
 -- the step of a block's first line
 abbrev pub head_step : RestoreValue → ℕ → Option ChunkHead → RestoringStep
 head_step r at None = refuses r (fault.Line at)
-head_step r at (Some head) = step_within_block r (begun_at at head)
+head_step r at (Some head) = step_within_block r (block_start at head)
 
 -- the step of an entry's line
 abbrev pub entry_step : RestoreValue → ℕ → Begun → Option Entry → RestoringStep

@@ -1,6 +1,6 @@
 // Chunk blocks, read as the lines of an input.
 ghost use Rattle.std.specs.Prelude.{◌≡◌, Ok, Err, [], IfErr, OnOk};
-ghost use Rattle.jf_receive.specs.Steps.{begun_restoring, restored_at_end};
+ghost use Rattle.jf_receive.specs.Steps.{restoring_start, restored_at_end};
 ghost use Rattle.jf_receive.specs.TakenLines.{TakesBlockLine};
 
 use crate::blocks::Blocks;
@@ -29,7 +29,7 @@ impl Model for BlockReader {
 impl BlockReader {
     /// Begins before the first line, with a restore to which the blocks are to be added.
     pub(crate) fn new(alloc: Global, restore: Restore) -> BlockReader
-        ensures { result ≡ begun_restoring restore }
+        ensures { result ≡ restoring_start restore }
     {
         BlockReader {
             blocks: Blocks::new(alloc, restore),

@@ -1,6 +1,6 @@
 // Chunk blocks that are read line by line, as docs/FORMATS.md gives them.
 ghost use Rattle.std.specs.Prelude.{◌≡◌, ◌⊎◌, None, Ok, OnOk, OnErr};
-ghost use Rattle.jf_receive.specs.Steps.{begun_restoring, restoring_after, line_result, restored_at_end, out_of_memory, refusal_at_stage};
+ghost use Rattle.jf_receive.specs.Steps.{restoring_start, restoring_after, line_result, restored_at_end, out_of_memory, refusal_at_stage};
 
 use crate::block_line::read_line;
 use crate::fault::BlockFault;
@@ -37,7 +37,7 @@ impl Model for Blocks {
 impl Blocks {
     /// Begins before the first line. The blocks are to be added to what `restore` has.
     pub fn new(alloc: Global, restore: Restore) -> Blocks
-        ensures { result ≡ begun_restoring restore }
+        ensures { result ≡ restoring_start restore }
     {
         Blocks {
             alloc,

@@ -18,7 +18,7 @@ use Rattle.jf_path.proofs.ListLaws.{All-of, All-weaker, Contains-map}
 use Rattle.jf_path.proofs.FilterLaws.{filter-same, filter-Contains, filter-passes, Contains-filter}
 use Rattle.jf_path.proofs.NumberLaws.{le_so, number_tells, other_number}
 use Rattle.jf_codec.specs.declared.format.Format.{Format}
-use Rattle.jf_standing.specs.Named.{Named, never, is_written, is_stale, written_at, stale_at}
+use Rattle.jf_standing.specs.Named.{Named, not_stale, is_written, is_stale, written_at, stale_at}
 use Rattle.jf_standing.specs.Standing.{Standing, is_named, marked_node, unmarked_node, with_commit}
 use Rattle.jf_standing.specs.Building.{apart}
 use Rattle.jf_standing.specs.Sound.{IsSound}
@@ -106,17 +106,17 @@ module _ (s : Standing) (w : ℕ) (late : s.floor < w) (rises : IsTrue (are_risi
         | false ↦ λ is. ap (λ v. (n.0, n.1, v)) (apart_from n.2 is)
       ] refl)
     where
-      at : (v : ℕ) → v ≡ w → w ≡ cond (nat_le v w) v never
-      at v is = sym is ∙ ap (λ b. cond b v never) (sym (le_so v w (omega arith)))
+      at : (v : ℕ) → v ≡ w → w ≡ cond (nat_le v w) v not_stale
+      at v is = sym is ∙ ap (λ b. cond b v not_stale) (sym (le_so v w (omega arith)))
 
-      apart_from : (v : ℕ) → (v == w) ≡ false → cond (nat_le v (w - 1)) v never ≡ cond (nat_le v w) v never
-      apart_from v is = ap (λ b. cond b v never) (same v is)
+      apart_from : (v : ℕ) → (v == w) ≡ false → cond (nat_le v (w - 1)) v not_stale ≡ cond (nat_le v w) v not_stale
+      apart_from v is = ap (λ b. cond b v not_stale) (same v is)
         where
           same : (v : ℕ) → (v == w) ≡ false → nat_le v (w - 1) ≡ nat_le v w
           same v is = grind (arith, nat_tests)
 
   fresh_by : (n : Named) → Contains s.nodes n → is_written w n ≡ true → unmarked_node (without_since n) ≡ named_by w n
-  fresh_by n has is = ap (λ b. (n.0, n.1, cond b n.2 never)) (later n.0.version n.2 (number_tells n.0.version w is) (All-of _ s.nodes n numbered has).later)
+  fresh_by n has is = ap (λ b. (n.0, n.1, cond b n.2 not_stale)) (later n.0.version n.2 (number_tells n.0.version w is) (All-of _ s.nodes n numbered has).later)
     where
       later : (v x : ℕ) → v ≡ w → v < x → false ≡ nat_le x w
       later v x is lt = grind (arith, nat_tests)
@@ -172,8 +172,8 @@ standing-head s numbered =
     let nodes = whole s.nodes numbered in
     λ i. record { base = s.base; floor = s.floor; head = s.head; roots = roots i; nodes = nodes i }
   where
-    since : (n : Named) → (n.2 ≡ never) ⊎ (n.2 ≤ s.head) → cond (nat_le n.2 s.head) n.2 never ≡ n.2
-    since n gone = elim (nat_le n.2 s.head) as (λ b. nat_le n.2 s.head ≡ b → cond b n.2 never ≡ n.2) [
+    since : (n : Named) → (n.2 ≡ not_stale) ⊎ (n.2 ≤ s.head) → cond (nat_le n.2 s.head) n.2 not_stale ≡ n.2
+    since n gone = elim (nat_le n.2 s.head) as (λ b. nat_le n.2 s.head ≡ b → cond b n.2 not_stale ≡ n.2) [
       | true ↦ λ is. refl
       | false ↦ λ is. elim gone [ inl none ↦ sym none | inr late ↦ absurd (true≢false (sym (le_so n.2 s.head late) ∙ is)) ]
     ] refl

@@ -11,7 +11,7 @@ use Rattle.jf_hash.specs.Maps.{same_key}
 use Rattle.jf_hash.specs.Roots.{root}
 use Rattle.jf_model.specs.Nodes.{Path, under, is_node, is_fresh, plain_node}
 use Rattle.jf_codec.specs.declared.format.Format.{Format}
-use Rattle.jf_standing.specs.Named.{Named, never, is_alive, is_at, alive_at, written_at, stale_at, version_at, leaf_entry, leaf_entries, map_at}
+use Rattle.jf_standing.specs.Named.{Named, not_stale, is_alive, is_at, alive_at, written_at, stale_at, version_at, leaf_entry, leaf_entries, map_at}
 use Rattle.jf_standing.specs.Standing.{Standing}
 use Rattle.jf_standing.specs.Sound.{IsSound, is_counted, IsVersion, IsStep, StandAt}
 use Rattle.jf_standing.proofs.Counts.{count-map}
@@ -28,7 +28,7 @@ versions_named_by : (w : ℕ) (ns : List Named) → map (λ (n : Named). n.0.ver
 versions_named_by w [] = refl
 versions_named_by w (n ∷ ns) = ap (λ t. n.0.version ∷ t) (versions_named_by w ns)
 
-module _ (w : ℕ) (ns : List Named) (last : w < never) (x : ℕ) (low : x ≤ w) where
+module _ (w : ℕ) (ns : List Named) (last : w < not_stale) (x : ℕ) (low : x ≤ w) where
   -- an earlier version has the same map
   pub map-nodes_by : map_at x (nodes_by w ns) ≡ map_at x ns
   unfolding map_at
@@ -53,7 +53,7 @@ module _ (fmt : Format) (s : Standing) (sound : IsSound fmt s) (w : ℕ) (from :
   abbrev pub cut_nodes : List Named
   cut_nodes = nodes_by w s.nodes
 
-  last : w < never
+  last : w < not_stale
   last = let end = sound.head_last in omega arith
 
   same_version : (x : ℕ) → x ≤ w → (r q : List ℕ) → r ≡ q → IsVersion fmt s.nodes x r → IsVersion fmt cut_nodes x q
@@ -92,12 +92,12 @@ module _ (fmt : Format) (s : Standing) (sound : IsSound fmt s) (w : ℕ) (from :
       still_alive : (k : Named) (y : ℕ) → y < w → is_alive y k ≡ true → is_alive y (named_by w k) ≡ true
       still_alive k y earlier alive = let is = alive-tells y k alive in alive-so y (named_by w k) is.0 (later (nat_le k.2 w) is.1)
         where
-          later : (b : Bool) → y < k.2 → y < cond b k.2 never
+          later : (b : Bool) → y < k.2 → y < cond b k.2 not_stale
           later true lt = lt
           later false lt = let end = last in omega arith
 
-  since_by : (k : Named) → (k.2 ≡ never) ⊎ ((s.floor < k.2) × (k.2 ≤ s.head)) → ((named_by w k).2 ≡ never) ⊎ ((s.floor < (named_by w k).2) × ((named_by w k).2 ≤ w))
-  since_by k gone = elim (nat_le k.2 w) as (λ b. nat_le k.2 w ≡ b → (cond b k.2 never ≡ never) ⊎ ((s.floor < cond b k.2 never) × (cond b k.2 never ≤ w))) [
+  since_by : (k : Named) → (k.2 ≡ not_stale) ⊎ ((s.floor < k.2) × (k.2 ≤ s.head)) → ((named_by w k).2 ≡ not_stale) ⊎ ((s.floor < (named_by w k).2) × ((named_by w k).2 ≤ w))
+  since_by k gone = elim (nat_le k.2 w) as (λ b. nat_le k.2 w ≡ b → (cond b k.2 not_stale ≡ not_stale) ⊎ ((s.floor < cond b k.2 not_stale) × (cond b k.2 not_stale ≤ w))) [
     | false ↦ λ is. inl refl
     | true ↦ λ is. elim gone [ inl none ↦ inl none | inr late ↦ inr (late.0, le_tells k.2 w is) ]
   ] refl
@@ -122,5 +122,5 @@ module _ (fmt : Format) (s : Standing) (sound : IsSound fmt s) (w : ℕ) (from :
             subst (λ (z : Named). z.0.version ≤ w) k.2 (le_tells k.0.0.version w (filter-passes (is_written_by w) s.nodes k.0 k.1)));
         gone = All-each_element _ cut_nodes (λ n has.
             let k = map-which (named_by w) (filter (is_written_by w) s.nodes) n has in
-            subst (λ (z : Named). (z.2 ≡ never) ⊎ ((s.floor < z.2) × (z.2 ≤ w))) k.2 (since_by k.0 (All-of _ s.nodes k.0 sound.gone (filter-Contains (is_written_by w) s.nodes k.0 k.1))));
+            subst (λ (z : Named). (z.2 ≡ not_stale) ⊎ ((s.floor < z.2) × (z.2 ≤ w))) k.2 (since_by k.0 (All-of _ s.nodes k.0 sound.gone (filter-Contains (is_written_by w) s.nodes k.0 k.1))));
       }

@@ -10,7 +10,7 @@ use Rattle.jf_hash.specs.Roots.{root}
 use Rattle.jf_model.specs.Nodes.{Path, is_node}
 use Rattle.jf_codec.specs.declared.format.Format.{Format}
 use Rattle.jf_codec.specs.declared.format.Format.TheVariants as format
-use Rattle.jf_standing.specs.Named.{Named, never, map_at, version_at}
+use Rattle.jf_standing.specs.Named.{Named, not_stale, map_at, version_at}
 use Rattle.jf_standing.specs.Standing.{Standing}
 use Rattle.jf_standing.specs.Sound.{IsSound}
 use Rattle.jf_standing.specs.Building.{floor_standing, nodes_by_name, apart, as_named}
@@ -67,7 +67,7 @@ names_in fmt (n ∷ ns) = ap (λ t. n.0 ∷ t) (names_in fmt ns)
 -- ---- a directory with the floor's map and versions has the nodes of a sound checkpoint
 module _ (fmt : Format) (s : Standing) (read : IsReadStanding s) (sound : IsSound fmt s) (d : Standing) (d_read : IsReadStanding d) (d_sound : IsSound format.Two d) (floor_is : d.floor ≡ s.floor) (head_is : d.head ≡ s.floor)
     (same_map : map_at s.floor d.nodes ≡ map_at s.floor s.nodes) (same_versions : (p : Path) → is_node 0 p (entries (map_at s.floor s.nodes)) ≡ true → version_at s.floor d.nodes p ≡ version_at s.floor s.nodes p) where
-  end : s.floor < never
+  end : s.floor < not_stale
   end = let low = sound.floor_low in let last = sound.head_last in omega arith
 
   by_map : map_at s.floor (nodes_by s.floor s.nodes) ≡ map_at s.floor s.nodes
@@ -97,7 +97,7 @@ module _ (fmt : Format) (s : Standing) (read : IsReadStanding s) (sound : IsSoun
       (λ p node. both_versions p (sym (ap (λ mm. is_node 0 p (entries mm)) by_map) ∙ node)))
 
 -- ---- the directory of a snapshot
-module _ (base : ℕ) (earlier : List (List ℕ)) (x : SnapshotValue) (snapshot : IsSnapshot x) (long : base + length earlier ≡ x.version) (last : x.version < never) (room : len x.map ≤ 2 ^ 63) where
+module _ (base : ℕ) (earlier : List (List ℕ)) (x : SnapshotValue) (snapshot : IsSnapshot x) (long : base + length earlier ≡ x.version) (last : x.version < not_stale) (room : len x.map ≤ 2 ^ 63) where
   abbrev roots : List (List ℕ)
   roots = root x.map ∷ reverse earlier
 
@@ -124,7 +124,7 @@ module _ (base : ℕ) (earlier : List (List ℕ)) (x : SnapshotValue) (snapshot 
   begun-versions p node = version-moved format.Two plain (nodes_by_name plain.nodes) plain_sound moved x.version (omega arith) (omega arith) p ∙ version-floor format.Two base x.version roots x.map (version_in x) snapshot.map low_versions last p node
 
 -- ---- comparison
-pub same_listed-exact : (fmt : Format) (floor : ℕ) (own ds : List Named) → AllByRecursion (λ n. floor < n.2) own → AllByRecursion (λ n. n.2 ≡ never) ds → pointwise same_listed own (map (listed_in fmt) ds) ≡ true → map (listed_in fmt) ds ≡ map (named_by floor) own
+pub same_listed-exact : (fmt : Format) (floor : ℕ) (own ds : List Named) → AllByRecursion (λ n. floor < n.2) own → AllByRecursion (λ n. n.2 ≡ not_stale) ds → pointwise same_listed own (map (listed_in fmt) ds) ≡ true → map (listed_in fmt) ds ≡ map (named_by floor) own
 same_listed-exact fmt floor [] [] late live is = refl
 same_listed-exact fmt floor [] (k ∷ ds) late live is = absurd (true≢false (sym is))
 same_listed-exact fmt floor (n ∷ own) [] late live is = absurd (true≢false (sym is))
@@ -134,8 +134,8 @@ same_listed-exact fmt floor (n ∷ own) (k ∷ ds) late live is =
     let b = (node-exact n.1 (in_format fmt k.1)).0 (right_true (same_name n.0 k.0) _ here) in
     ap₂ (λ y t. y ∷ t) (λ i. (sym a i, sym b i, since i)) (same_listed-exact fmt floor own ds late.1 live.1 (right_true (same_listed n (listed_in fmt k)) _ is))
   where
-    since : k.2 ≡ cond (nat_le n.2 floor) n.2 never
-    since = live.0 ∙ ap (λ b. cond b n.2 never) (sym (not_le n.2 late.0))
+    since : k.2 ≡ cond (nat_le n.2 floor) n.2 not_stale
+    since = live.0 ∙ ap (λ b. cond b n.2 not_stale) (sym (not_le n.2 late.0))
       where
         not_le : (v : ℕ) → floor < v → nat_le v floor ≡ false
         not_le v lt = grind (arith, nat_tests)

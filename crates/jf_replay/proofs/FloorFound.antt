@@ -14,7 +14,7 @@ use Rattle.jf_codec.specs.declared.format.Format.{Format}
 use Rattle.jf_codec.specs.declared.format.Format.TheVariants as format
 use Rattle.jf_node.specs.SnapshotValue.{SnapshotValue}
 use Rattle.jf_node.specs.Snapshots.{IsSnapshot}
-use Rattle.jf_standing.specs.Named.{Named, never, alive_at, map_at, version_at}
+use Rattle.jf_standing.specs.Named.{Named, not_stale, alive_at, map_at, version_at}
 use Rattle.jf_standing.specs.Standing.{Standing}
 use Rattle.jf_standing.specs.Sound.{IsSound}
 use Rattle.jf_standing.specs.FormatLaws.{standing_in}
@@ -74,7 +74,7 @@ module _ (fmt : Format) (base floor head : ℕ) (roots : List (List ℕ)) (ns ow
           taken [] (suc k) le = absurd (omega arith)
           taken (y ∷ ys) (suc k) le = ap suc (taken ys k (omega arith))
 
-      last : x.version < never
+      last : x.version < not_stale
       last = let v = restored.version in let high = read.floor_low in let end = read.head_last in omega arith
 
       floor_is : d.floor ≡ floor
@@ -95,7 +95,7 @@ module _ (fmt : Format) (base floor head : ℕ) (roots : List (List ℕ)) (ns ow
           ∙ restored-versions fmt s read sound own alive_is x restored p node) in
           true≢false (sym (ap (pointwise same_listed own) (same ∙ ap (map (named_by floor)) (sym own_is)) ∙ same_listed-refl floor own) ∙ other)
 
-      live_never : AllByRecursion (λ n. n.2 ≡ never) d.nodes
+      live_never : AllByRecursion (λ n. n.2 ≡ not_stale) d.nodes
       live_never = All-each_element _ d.nodes (λ n has. elim (All-of _ d.nodes n d_sound.gone has) [ inl none ↦ none | inr late ↦ absurd (let low = late.0 in let high = late.1 in omega (arith, low, high, floor_is, head_is)) ])
 
       -- a directory with the listed nodes and root is the floor

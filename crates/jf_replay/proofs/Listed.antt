@@ -14,7 +14,7 @@ use Rattle.jf_codec.specs.Spelling.{IsNode}
 use Rattle.jf_codec.specs.declared.format.Format.{Format}
 use Rattle.jf_payload.specs.Spelling.{IsCommit}
 use Rattle.jf_payload.specs.declared.records.Commit.{Commit}
-use Rattle.jf_standing.specs.Named.{Named, never, is_written, is_stale, written_at, stale_at}
+use Rattle.jf_standing.specs.Named.{Named, not_stale, is_written, is_stale, written_at, stale_at}
 use Rattle.jf_standing.specs.Standing.{Standing, with_commit}
 use Rattle.jf_standing.specs.Next.{IsReadStanding}
 use Rattle.jf_standing.specs.Sound.{IsSound}
@@ -89,7 +89,7 @@ module _ (base floor head : ℕ) (roots : List (List ℕ)) (ns : List Named) (re
   -- each step reads the landing of its version off the lists
   pub step-making : (c : Commit) (names : List NodeName) (es : List (ℕ × List NodeName))
       → c ≡ record { version = floor + 1 + step; root = slice_index_or roots (floor + 1 + step - base) []; fresh = map without_since (written_at (floor + 1 + step) ns); stale = names } → names ≡ names_beside (floor + 1 + step) es
-      → ((w : ℕ) → floor + step < w → w < never → names_beside w es ≡ map (λ n. n.0) (stale_at w ns)) → c ≡ landing_making (floor + 1 + step) (standing_listed base floor head roots ns)
+      → ((w : ℕ) → floor + step < w → w < not_stale → names_beside w es ≡ map (λ n. n.0) (stale_at w ns)) → c ≡ landing_making (floor + 1 + step) (standing_listed base floor head roots ns)
   step-making c names es is taken beside =
       let low = read.base_low in
       let last = read.head_last in
@@ -110,8 +110,8 @@ module _ (base floor head : ℕ) (roots : List (List ℕ)) (ns : List Named) (re
 
 -- the names that are taken are gone, and no others
 pub names-later : (ns : List Named) (floor step : ℕ) (es fs : List (ℕ × List NodeName))
-    → ((w : ℕ) → names_beside w fs ≡ (if w == floor + 1 + step then [] else names_beside w es)) → ((w : ℕ) → floor + step < w → w < never → names_beside w es ≡ map (λ n. n.0) (stale_at w ns))
-    → (w : ℕ) → floor + (step + 1) < w → w < never → names_beside w fs ≡ map (λ (n : Named). n.0) (stale_at w ns)
+    → ((w : ℕ) → names_beside w fs ≡ (if w == floor + 1 + step then [] else names_beside w es)) → ((w : ℕ) → floor + step < w → w < not_stale → names_beside w es ≡ map (λ n. n.0) (stale_at w ns))
+    → (w : ℕ) → floor + (step + 1) < w → w < not_stale → names_beside w fs ≡ map (λ (n : Named). n.0) (stale_at w ns)
 names-later ns floor step es fs taken beside w late last =
     taken w ∙ ap (λ b. cond b [] (names_beside w es)) (other_number w (floor + 1 + step) (λ is. omega arith)) ∙ beside w (omega arith) last
 

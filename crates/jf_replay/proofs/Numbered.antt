@@ -3,7 +3,7 @@ use Rattle.std.proofs.Common.{◌≡◌, ℕ, zero, suc, length, get_or, arith, 
 use Rattle.std.specs.List.{AllByRecursion, list_all}
 use Rattle.jf_path.proofs.BoolLaws.{left_true, right_true}
 use Rattle.jf_path.proofs.NumberLaws.{le_so, le_tells, lt_so, lt_tells, number_tells, same_number}
-use Rattle.jf_standing.specs.Named.{Named, never}
+use Rattle.jf_standing.specs.Named.{Named, not_stale}
 use Rattle.jf_replay.specs.Cuts.{has_numbers}
 
 -- a node goes stale after the version that wrote it and after the floor, and both versions are at most the head
@@ -11,7 +11,7 @@ pub record IsNumbered (floor head : ℕ) (n : Named) : Type 0 where
   pub written : n.0.version ≤ head
   pub later : n.0.version < n.2
   pub kept : floor < n.2
-  pub gone : (n.2 ≡ never) ⊎ (n.2 ≤ head)
+  pub gone : (n.2 ≡ not_stale) ⊎ (n.2 ≤ head)
 
 either : (a b : Bool) → (a || b) ≡ true → (a ≡ true) ⊎ (b ≡ true)
 either true b is = inl refl
@@ -29,14 +29,14 @@ numbers-tell floor head n is =
       written = le_tells n.0.version head (left_true _ _ is);
       later = lt_tells n.0.version n.2 (left_true _ _ rest);
       kept = lt_tells floor n.2 (left_true _ _ last);
-      gone = elim (either (n.2 == never) (nat_le n.2 head) (right_true _ _ last)) [ inl same ↦ inl (number_tells n.2 never same) | inr low ↦ inr (le_tells n.2 head low) ];
+      gone = elim (either (n.2 == not_stale) (nat_le n.2 head) (right_true _ _ last)) [ inl same ↦ inl (number_tells n.2 not_stale same) | inr low ↦ inr (le_tells n.2 head low) ];
     }
 
 numbers-so : (floor head : ℕ) (n : Named) → IsNumbered floor head n → has_numbers floor head n ≡ true
 numbers-so floor head n is =
     ap₂ (λ a b. a && b) (le_so n.0.version head is.written)
     (ap₂ (λ a b. a && b) (lt_so n.0.version n.2 is.later) (ap₂ (λ a b. a && b) (lt_so floor n.2 is.kept)
-    (or-so (n.2 == never) (nat_le n.2 head) (elim is.gone [ inl same ↦ inl (same_number n.2 never same) | inr low ↦ inr (le_so n.2 head low) ]))))
+    (or-so (n.2 == not_stale) (nat_le n.2 head) (elim is.gone [ inl same ↦ inl (same_number n.2 not_stale same) | inr low ↦ inr (le_so n.2 head low) ]))))
 
 pub all-numbered : (floor head : ℕ) (ns : List Named) → list_all (has_numbers floor head) ns ≡ true → AllByRecursion (IsNumbered floor head) ns
 all-numbered floor head [] is = tt

@@ -12,7 +12,7 @@ use Rattle.jf_hash.specs.Slots.{Part}
 use Rattle.jf_model.specs.Nodes.{under}
 use Rattle.jf_split.proofs.Gathered.{insert_entry-put}
 use Rattle.jf_standing.specs.Landing.{by_key}
-use Rattle.jf_standing.specs.Named.{leaf_entries, never}
+use Rattle.jf_standing.specs.Named.{leaf_entries, not_stale}
 use Rattle.jf_standing.specs.Standing.{unmarked_node}
 use Rattle.jf_standing.proofs.Batches.{puts_of, removals_of}
 use Rattle.jf_replay.specs.Changes.{put_each, leaves_at, sole, removal_of}
@@ -33,7 +33,7 @@ module _ {X : Type 0} where
 -- the leaf of one more node is put
 pub put-leaf : (x : NodeName × PlainNode) (xs : List (NodeName × PlainNode)) (key value : List ℕ) (b : Batch) → x.1 ≡ node.Leaf key value
     → put_each (puts_of (leaf_entries (map unmarked_node (x ∷ xs)))) b ≡ put key_cmp key (Some value) (put_each (puts_of (leaf_entries (map unmarked_node xs))) b)
-put-leaf x xs key value b is = ap (λ (n : PlainNode). put_each (puts_of (leaf_entries ((x.0, n, never) ∷ map unmarked_node xs))) b) is
+put-leaf x xs key value b is = ap (λ (n : PlainNode). put_each (puts_of (leaf_entries ((x.0, n, not_stale) ∷ map unmarked_node xs))) b) is
 
 -- the leaf of one more name is removed
 pub put-removal : (m : Map) (name : NodeName) (names : List NodeName) (key : List ℕ) (b : Batch) → removals_of (sole (under 0 name.path (entries m))) ≡ removal_of (Some key)

@@ -17,7 +17,7 @@ use Rattle.jf_codec.specs.Spelling.{IsNode}
 use Rattle.jf_codec.specs.declared.format.Format.{Format}
 use Rattle.jf_payload.specs.declared.records.Commit.{Commit}
 use Rattle.jf_payload.specs.Spelling.{IsCommit}
-use Rattle.jf_standing.specs.Named.{never, AreEntries, leaf_entries}
+use Rattle.jf_standing.specs.Named.{not_stale, AreEntries, leaf_entries}
 use Rattle.jf_standing.specs.Standing.{Standing, unmarked_node}
 use Rattle.jf_standing.specs.Landing.{fresh_leaves, IsInOrder}
 use Rattle.jf_standing.proofs.Batches.{puts_of, removals_of, by_key-IsBatch, by_key-Contains}
@@ -40,7 +40,7 @@ short_leaves : (fmt : Format) (xs : List (NodeName × PlainNode)) → AllByRecur
 short_leaves fmt [] h = tt
 short_leaves fmt (x ∷ xs) h = at x.1 h.0.1 (short_leaves fmt xs h.1)
   where
-    at : (n : PlainNode) → IsNode fmt n → AllByRecursion IsShortEntry (leaf_entries (map unmarked_node xs)) → AllByRecursion IsShortEntry (leaf_entries ((x.0, n, never) ∷ map unmarked_node xs))
+    at : (n : PlainNode) → IsNode fmt n → AllByRecursion IsShortEntry (leaf_entries (map unmarked_node xs)) → AllByRecursion IsShortEntry (leaf_entries ((x.0, n, not_stale) ∷ map unmarked_node xs))
     at node.Null is rest = rest
     at (node.Leaf key value) is rest = (is, rest)
     at (node.Inner cs) is rest = rest

@@ -7,7 +7,7 @@ use Rattle.jf_codec.specs.declared.format.Format.{Format}
 use Rattle.jf_codec.specs.declared.format.Format.TheVariants as format
 use Rattle.jf_payload.specs.declared.records.Commit.{Commit}
 use Rattle.jf_payload.specs.Counted.{commit_in}
-use Rattle.jf_standing.specs.Named.{never, leaf_entries, AreEntries}
+use Rattle.jf_standing.specs.Named.{not_stale, leaf_entries, AreEntries}
 use Rattle.jf_standing.specs.Standing.{Standing, with_commit}
 use Rattle.jf_standing.specs.Sound.{IsSound}
 use Rattle.jf_standing.specs.Taking.{Continues}
@@ -42,7 +42,7 @@ module _ (fmt : Format) (s : Standing) (sound : IsSound format.Two s) (keys : Ar
   kept_map = map_kept fmt s.head s.nodes
 
   -- a landing that writes what the landing of a map writes is taken, and makes what the format keeps of that landing
-  pub taken : (m : Map) (c : Commit) → IsMap m → len m ≤ 2 ^ 63 → s.head + 1 < never → c ≡ commit_in fmt (landing_of format.Two s m)
+  pub taken : (m : Map) (c : Commit) → IsMap m → len m ≤ 2 ^ 63 → s.head + 1 < not_stale → c ≡ commit_in fmt (landing_of format.Two s m)
       → Continues (standing_in fmt s) c × IsSound fmt (with_commit c (standing_in fmt s)) × (standing_in fmt (landed_on format.Two m s) ≡ with_commit c (standing_in fmt s))
   taken m c own room last is =
       let old = standing_in fmt s in

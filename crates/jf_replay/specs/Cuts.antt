@@ -6,7 +6,7 @@ use Rattle.std.specs.Ordering.{nat_cmp}
 use Rattle.jf_path.specs.declared.name.NodeName.{NodeName}
 use Rattle.jf_path.specs.declared.node.PlainNode.{PlainNode}
 use Rattle.jf_payload.specs.declared.records.Commit.{Commit}
-use Rattle.jf_standing.specs.Named.{Named, never, written_at, stale_at}
+use Rattle.jf_standing.specs.Named.{Named, not_stale, written_at, stale_at}
 use Rattle.jf_standing.specs.Standing.{Standing}
 use Rattle.jf_replay.specs.declared.lent.CheckpointRef.{CheckpointRef}
 
@@ -16,7 +16,7 @@ is_written_by w n = nat_le n.0.version w
 
 -- a node as it was at w: not stale if it went stale later
 abbrev pub named_by : ℕ → Named → Named
-named_by w n = (n.0, n.1, if nat_le n.2 w then n.2 else never)
+named_by w n = (n.0, n.1, if nat_le n.2 w then n.2 else not_stale)
 
 -- the nodes as they were at w
 abbrev pub nodes_by : ℕ → List Named → List Named
@@ -48,7 +48,7 @@ standing_lent c = standing_listed c.base c.floor c.head c.roots.now c.nodes.now
 
 -- a node goes stale after the version that wrote it and after the floor, and both versions are at most the head
 abbrev pub has_numbers : ℕ → ℕ → Named → Bool
-has_numbers floor head n = nat_le n.0.version head && (nat_lt n.0.version n.2 && (nat_lt floor n.2 && (n.2 == never || nat_le n.2 head)))
+has_numbers floor head n = nat_le n.0.version head && (nat_lt n.0.version n.2 && (nat_lt floor n.2 && (n.2 == not_stale || nat_le n.2 head)))
 
 -- the names that stand beside a version, if any do
 abbrev pub names_beside : ℕ → List (ℕ × List NodeName) → List NodeName

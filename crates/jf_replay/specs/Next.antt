@@ -9,7 +9,7 @@ use Rattle.jf_codec.specs.declared.format.Format.{Format}
 use Rattle.jf_codec.specs.declared.format.Format.TheVariants as format
 use Rattle.jf_payload.specs.declared.records.Commit.{Commit}
 use Rattle.jf_payload.specs.Counted.{commit_in}
-use Rattle.jf_standing.specs.Named.{never, version_at}
+use Rattle.jf_standing.specs.Named.{not_stale, version_at}
 use Rattle.jf_standing.specs.Standing.{Standing}
 use Rattle.jf_standing.specs.Landing.{head_map, landing_of}
 use Rattle.jf_replay.specs.Changes.{changes_of}
@@ -25,7 +25,7 @@ IsNameAtHead s name = (is_node 0 name.path (entries (head_map s)) ≡ true) × (
 -- a landing has the next version, it marks nodes of the head's map stale, and it leads to a map of at most 2^63 entries
 pub record MayBeNext (s : Standing) (c : Commit) : Type 0 where
   pub next : c.version ≡ s.head + 1
-  pub last : s.head + 1 < never
+  pub last : s.head + 1 < not_stale
   pub named : AllByRecursion (IsNameAtHead s) c.stale
   pub room : len (read_map s c) ≤ 2 ^ 63
 

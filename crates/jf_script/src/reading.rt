@@ -16,7 +16,7 @@ use std::alloc::Global;
 pub fn read_line(alloc: Global, line: &[u8]) -> Result<Command, LineFault>
     ensures found { IfOk result (λ c. command_of line.now ≡ Some c) }
     ensures short { IfOk result (λ c. is_long line.now ≡ false) }
-    ensures long { (result ≡ Err LineFault.LineTooLong) ↔ IsTrue (is_long line.now) }
+    ensures too_long { (result ≡ Err LineFault.LineTooLong) ↔ IsTrue (is_long line.now) }
     ensures syntax { result ≡ Err LineFault.Syntax → (is_long line.now ≡ false) × (command_of line.now ≡ None) }
     ensures refused { is_long line.now ≡ false → command_of line.now ≡ None → (result ≡ Err LineFault.Syntax) ⊎ (result ≡ Err LineFault.Memory) }
     ensures memory { result ≡ Err LineFault.Memory → IsTrue (takes_name (words line.now)) }

@@ -14,7 +14,7 @@ use Rattle.jf_answers.specs.Answers.{Answer, answer}
 use Rattle.jf_answers.proofs.AnswerLaws.{answer-both_long}
 use Rattle.jf_answers.specs.Runs.{answer_text}
 use Rattle.jf_answers.specs.OwnLines.{is_own_line, is_own, pin_of, pin_of_command}
-use Rattle.jf_answers.specs.Explains.{Timeline, Answered, IsAnswered, Looks, Changes, GivesEntry, answered_with_floor, answer_with, floor_in, state_after}
+use Rattle.jf_answers.specs.Explains.{Timeline, Answered, IsAnswered, Looks, HasAnsweredChange, GivesEntry, answered_with_floor, answer_with, floor_in, state_after}
 use Rattle.jf_history.specs.Sessions.{Session, FollowsLine, HasReplied, IsTry, HasDoneNothing}
 use Rattle.jf_session.specs.declared.stop.Stop.{Stop}
 use Rattle.jf_session.specs.declared.stop.Stop.TheVariants as stop
@@ -62,7 +62,7 @@ module _ (line other : List ℕ) (k : AreAlike line other) where
         by_itself = λ own. l.by_itself (k.asks ∙ own);
       }
 
-  changes_alike : (h : Timeline) (own : Own) (seen : ℕ) (r : Answered) → Changes h own seen line r → Changes h own seen other r
+  changes_alike : (h : Timeline) (own : Own) (seen : ℕ) (r : Answered) → HasAnsweredChange h own seen line r → HasAnsweredChange h own seen other r
   changes_alike h own seen r c =
       let e = with_alike (floor_in c.event) (state_after h (r.number - 1)) own in
       record {

@@ -39,7 +39,7 @@ impl<D: Disk> Session<D> {
     // Answers `put`: in what is pending, the key of the name has this value, which is taken over and not copied.
     pub(crate) fn put(&mut self, alloc: Global, name: &[u8], value: Bytes) -> Result<Reply, Stop>
         requires over { self.old.over ≡ false }
-        requires value { length value ≤ max_value }
+        requires short { length value ≤ max_value }
         ensures { (start : Start) → IsObeyed start self.old self.new (command.Own (own_command.Put name.now value)) result }
     {
         let value = match SharedBytes::of(alloc, value) {

@@ -6,10 +6,10 @@ use Rattle.jf_spec.specs.declared.node.Form.{Form}
 use Rattle.jf_spec.specs.declared.node.Form.TheVariants.{Stored, Leaf, Branch}
 use Rattle.jf_spec.specs.declared.node.Node.TheDeep.{deep-Form}
 
-form_falls : (depth : ℕ) (f : Form) → IsSoundTreeForm depth f → deep-Form f ≤ tree_levels (node_value depth f)
-form_falls depth (Stored range) h = omega arith
-form_falls depth (Leaf leaf) h = omega arith
-form_falls depth (Branch branch) h = omega (arith, h.deep, h.zeros_deep, h.ones_deep)
+tree_form_falls : (depth : ℕ) (f : Form) → IsSoundTreeForm depth f → deep-Form f ≤ tree_levels (node_value depth f)
+tree_form_falls depth (Stored range) h = omega arith
+tree_form_falls depth (Leaf leaf) h = omega arith
+tree_form_falls depth (Branch branch) h = omega (arith, h.deep, h.zeros_deep, h.ones_deep)
 
 pub tree_falls : (depth : ℕ) (f : Form) → IsSoundTreeForm depth f → max (deep-Form f) 0 ≤ tree_levels (node_value depth f)
-tree_falls depth f h = omega (arith, form_falls depth f h)
+tree_falls depth f h = omega (arith, tree_form_falls depth f h)

@@ -62,7 +62,7 @@ pub(crate) fn drop_empty(groups: &mut VecDeque<NamesSince>)
     requires { AreRisingGroups groups.old.items }
     ensures sorted { AreRisingGroups groups.new.items }
     ensures marks { marks_in groups.new.items ≡ marks_in groups.old.items }
-    ensures front { begins_empty groups.new.items ≡ false }
+    ensures nonempty { begins_empty groups.new.items ≡ false }
 {
     while is_first_empty(groups) {
         let _ = groups.pop_front();

@@ -15,7 +15,7 @@ use Rattle.jf_hash.specs.Maps.{IsMap, Map}
 use Rattle.jf_hash.specs.Roots.{root}
 use Rattle.jf_model.specs.Nodes.{Path, is_node}
 use Rattle.jf_codec.specs.declared.format.Format.{Format}
-use Rattle.jf_standing.specs.Named.{Named, is_alive, is_at, alive_at, version_at, never, map_at}
+use Rattle.jf_standing.specs.Named.{Named, is_alive, is_at, alive_at, version_at, not_stale, map_at}
 use Rattle.jf_standing.specs.Standing.{Standing, with_nodes, versions_of}
 use Rattle.jf_standing.specs.Next.{IsReadStanding}
 use Rattle.jf_standing.specs.Building.{floor_of, rebuilt, nodes_by_name, landed_on, built_standing, up_from, apart, as_named, checkpoint_of}
@@ -54,7 +54,7 @@ module _ (fmt : Format) (s : Standing) (read : IsReadStanding s) (top : version_
       let base = read.base_low in
       let each = read.root_each in
       let end = read.head_last in
-      let last : s.floor < never = omega arith in
+      let last : s.floor < not_stale = omega arith in
       record {
         sound = floor-sound fmt s.base s.floor roots m version sound low last base (omega (arith, length-drop (s.head - s.floor + 1) s.roots)) refl (room s.floor (omega arith) high) top;
         base_is = refl;

@@ -8,7 +8,7 @@ use Rattle.jf_hash.specs.Maps.{Map, IsMap, same_key}
 use Rattle.jf_hash.specs.Slots.{Part}
 use Rattle.jf_model.specs.Nodes.{is_fresh, Path, fresh, under, is_node, plain_node}
 use Rattle.jf_codec.specs.declared.format.Format.{Format}
-use Rattle.jf_standing.specs.Named.{Named, alive_at, never, is_alive, is_at, version_at, map_at, leaf_entries}
+use Rattle.jf_standing.specs.Named.{Named, alive_at, not_stale, is_alive, is_at, version_at, map_at, leaf_entries}
 use Rattle.jf_standing.specs.Standing.{Standing, is_named, unmarked_node}
 use Rattle.jf_standing.specs.Landing.{head_map, written_node, version_after}
 use Rattle.jf_standing.specs.Sound.{IsSound, is_counted}
@@ -33,7 +33,7 @@ pub record StandsUnnamed (s : Standing) (m : Map) (n : Named) : Type 0 where
   pub alive : Contains (alive_at s.head s.nodes) n
   pub stays : is_fresh (entries m) (entries (head_map s)) n.0.path ≡ false
 
-module _ (fmt : Format) (s : Standing) (m : Map) (sound : IsSound fmt s) (keys : IsMap (head_map s)) (own_keys : IsMap m) (last : s.head + 1 < never) where
+module _ (fmt : Format) (s : Standing) (m : Map) (sound : IsSound fmt s) (keys : IsMap (head_map s)) (own_keys : IsMap m) (last : s.head + 1 < not_stale) where
   abbrev pub now : List Named
   now = nodes_after_commit (landing fmt s m sound keys own_keys last) s.nodes
 

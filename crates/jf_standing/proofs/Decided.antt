@@ -8,7 +8,7 @@ use Rattle.jf_hash.specs.Maps.{IsBatch, IsMap, apply}
 use Rattle.jf_model.proofs.ChangeLaws.{IsMap-apply}
 use Rattle.jf_codec.specs.declared.format.Format.{Format}
 use Rattle.jf_payload.specs.declared.records.Commit.{Commit}
-use Rattle.jf_standing.specs.Named.{leaf_entries, AreEntries, map_at, never}
+use Rattle.jf_standing.specs.Named.{leaf_entries, AreEntries, map_at, not_stale}
 use Rattle.jf_standing.specs.Standing.{Standing, is_named, with_commit}
 use Rattle.jf_standing.specs.Landing.{fresh_leaves, stale_leaves, batch_of, head_map, landing_of, IsInOrder}
 use Rattle.jf_standing.specs.Sound.{IsSound}
@@ -36,7 +36,7 @@ found fmt s c sound keys own_keys order goes behind_sound =
 
 -- a landing is sound exactly if it is a landing of the batch that is read off it
 pub decided : (fmt : Format) (s : Standing) (c : Commit) → IsSound fmt s → AreEntries (leaf_entries s.nodes) → AreEntries (fresh_leaves c) → IsInOrder c
-    → (Continues s c × IsSound fmt (with_commit c s)) ↔ ((s.head + 1 < never) × (len (apply (head_map s) (batch_of s c)) ≤ 2 ^ 63) × (c ≡ landing_of fmt s (apply (head_map s) (batch_of s c))))
+    → (Continues s c × IsSound fmt (with_commit c s)) ↔ ((s.head + 1 < not_stale) × (len (apply (head_map s) (batch_of s c)) ≤ 2 ^ 63) × (c ≡ landing_of fmt s (apply (head_map s) (batch_of s c))))
 decided fmt s c sound keys own_keys order = (
   λ is.
       let read = map-read fmt s c sound is.0 is.1 in

@@ -12,7 +12,7 @@ use Rattle.jf_hash.specs.Roots.{root}
 use Rattle.jf_hash.specs.Slots.{Part}
 use Rattle.jf_model.specs.Nodes.{Path, under, plain_node, is_fresh, stale, is_node}
 use Rattle.jf_codec.specs.declared.format.Format.{Format}
-use Rattle.jf_standing.specs.Named.{Named, never, alive_at, map_at, version_at, is_at, is_written, written_at, is_alive, is_stale, stale_at, leaf_entries}
+use Rattle.jf_standing.specs.Named.{Named, not_stale, alive_at, map_at, version_at, is_at, is_written, written_at, is_alive, is_stale, stale_at, leaf_entries}
 use Rattle.jf_standing.specs.Standing.{Standing, marked_node, is_named, with_commit}
 use Rattle.jf_standing.specs.Sound.{IsSound, StandAt, is_counted, IsVersion, IsStep}
 use Rattle.jf_standing.specs.Landing.{head_map, landing_of, version_after, name_at_head, stale_names}
@@ -31,7 +31,7 @@ use Rattle.jf_standing.proofs.Freshness.{child-node, fresh-node, listed-fresh}
 use Rattle.jf_standing.proofs.Unique.{few-alive}
 use Rattle.jf_standing.proofs.Names.{named-tells, named-so, named-in_order}
 
-module _ (fmt : Format) (s : Standing) (m : Map) (sound : IsSound fmt s) (keys : IsMap (head_map s)) (own_keys : IsMap m) (last : s.head + 1 < never) where
+module _ (fmt : Format) (s : Standing) (m : Map) (sound : IsSound fmt s) (keys : IsMap (head_map s)) (own_keys : IsMap m) (last : s.head + 1 < not_stale) where
   abbrev pub own : List Named
   own = now fmt s m sound keys own_keys last
 
@@ -65,7 +65,7 @@ module _ (fmt : Format) (s : Standing) (m : Map) (sound : IsSound fmt s) (keys :
       parts false b h = absurd (true≢false (sym h))
 
   stale_own : (w : ℕ) → w ≤ s.head → stale_at w own ≡ map (marked_node (landing_of fmt s m)) (stale_at w s.nodes)
-  stale_own w high = filter-unchanged (is_stale w) (landing_of fmt s m) s.nodes (All-each_element _ (landing_of fmt s m).fresh (λ x has. other_number never w (λ is. omega arith))) (All-each_element _ s.nodes (stale_same w high))
+  stale_own w high = filter-unchanged (is_stale w) (landing_of fmt s m) s.nodes (All-each_element _ (landing_of fmt s m).fresh (λ x has. other_number not_stale w (λ is. omega arith))) (All-each_element _ s.nodes (stale_same w high))
 
   stands_own : (test : Path → Bool) (ns ms : List Named) → ms ≡ map (marked_node (landing_of fmt s m)) ns → StandAt test ns → StandAt test ms
   stands_own test ns ms is stand p = ap (count_by (is_at p)) is ∙ count_marked p ns ∙ stand p
@@ -157,7 +157,7 @@ module _ (fmt : Format) (s : Standing) (m : Map) (sound : IsSound fmt s) (keys :
         (λ k stood same. let low = version-low fmt s sound k stood in let v = ap (λ z. z.version) (sym (marked-name (landing_of fmt s m) k) ∙ ap (λ (z : Named). z.0) same) in omega arith)
         (λ x mine same. let at = All-of (λ x. x.0.version ≡ s.head + 1) (landing_of fmt s m).fresh x (fresh-own fmt s m) mine in let v = ap (λ (z : Named). z.0.version) same in omega arith));
     gone = All-each_element _ own (λ n has. nodes_after_commit-cases (landing_of fmt s m) s.nodes n has
-        (λ k stood same. elim (is_named k.0 (landing_of fmt s m).stale) as (λ b. is_named k.0 (landing_of fmt s m).stale ≡ b → (n.2 ≡ never) ⊎ ((s.floor < n.2) × (n.2 ≤ s.head + 1))) [
+        (λ k stood same. elim (is_named k.0 (landing_of fmt s m).stale) as (λ b. is_named k.0 (landing_of fmt s m).stale ≡ b → (n.2 ≡ not_stale) ⊎ ((s.floor < n.2) × (n.2 ≤ s.head + 1))) [
           | true ↦ λ named. let at = ap (λ (z : Named). z.2) (sym (marked-yes (landing_of fmt s m) k named) ∙ same) in let low = sound.floor_low in inr (omega arith, omega arith)
           | false ↦ λ free. let at = ap (λ (z : Named). z.2) (sym (marked-not (landing_of fmt s m) k free) ∙ same) in elim (All-of _ s.nodes k sound.gone stood) [ inl none ↦ inl (omega arith) | inr late ↦ let up = late.0 in let down = late.1 in inr (omega arith, omega arith) ]
         ] refl)

@@ -13,7 +13,7 @@ use Rattle.jf_codec.specs.declared.format.Format.{Format}
 use Rattle.jf_payload.specs.declared.records.Commit.{Commit}
 use Rattle.jf_payload.specs.declared.records.Record.{Record}
 use Rattle.jf_payload.specs.declared.records.Record.TheVariants as «record»
-use Rattle.jf_standing.specs.Named.{Named, leaf_entry, leaf_entries, AreEntries, never}
+use Rattle.jf_standing.specs.Named.{Named, leaf_entry, leaf_entries, AreEntries, not_stale}
 use Rattle.jf_standing.specs.Standing.{Standing, unmarked_node, with_commit, with_floor}
 use Rattle.jf_standing.specs.Landing.{fresh_leaves, head_map, batch_of, landing_of}
 use Rattle.jf_standing.specs.Sound.{IsSound}
@@ -46,11 +46,11 @@ next-decided fmt s c sound keys read =
     let m : Map = apply (head_map s) (batch_of s c) in
     let by = decided fmt s c sound keys read.1 read.0 in (
       λ is.
-          let rest = right_true (nat_lt (s.head + 1) never) _ is in
-          by.1 (lt_tells (s.head + 1) never (left_true _ _ is), le_tells (len m) (2 ^ 63) (left_true _ _ rest), (commit-exact c (landing_of fmt s m)).0 (right_true (nat_le (len m) (2 ^ 63)) _ rest)),
+          let rest = right_true (nat_lt (s.head + 1) not_stale) _ is in
+          by.1 (lt_tells (s.head + 1) not_stale (left_true _ _ is), le_tells (len m) (2 ^ 63) (left_true _ _ rest), (commit-exact c (landing_of fmt s m)).0 (right_true (nat_le (len m) (2 ^ 63)) _ rest)),
       λ is.
           let all = by.0 is in
-          ap₂ (λ a b. a && b) (lt_so (s.head + 1) never all.0) (ap₂ (λ a b. a && b) (le_so (len m) (2 ^ 63) all.1) ((commit-exact c (landing_of fmt s m)).1 all.2)),
+          ap₂ (λ a b. a && b) (lt_so (s.head + 1) not_stale all.0) (ap₂ (λ a b. a && b) (le_so (len m) (2 ^ 63) all.1) ((commit-exact c (landing_of fmt s m)).1 all.2)),
     )
 
 commits-taken : (fmt : Format) (cs : List Commit) (s s' : Standing) → IsSound fmt s → AreEntries (leaf_entries s.nodes) → AllByRecursion IsReadCommit cs → (next_by_commits fmt s cs ≡ Some s') ↔ TakesCommits fmt s cs s'

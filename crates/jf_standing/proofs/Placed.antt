@@ -21,7 +21,7 @@ use Rattle.jf_payload.specs.declared.records.Commit.{Commit}
 use Rattle.jf_walk.proofs.FreshOrder.{sorted-fresh}
 use Rattle.jf_standing.specs.Standing.{Standing, marked_node, unmarked_node, is_named}
 use Rattle.jf_standing.specs.Landing.{written_node, head_map, landing_of}
-use Rattle.jf_standing.specs.Named.{never, Named, is_written, is_at, written_at, is_stale, is_alive, stale_at, alive_at}
+use Rattle.jf_standing.specs.Named.{not_stale, Named, is_written, is_at, written_at, is_stale, is_alive, stale_at, alive_at}
 use Rattle.jf_standing.specs.Sound.{IsSound, StandAt}
 use Rattle.jf_standing.proofs.Lists.{one, All-each_element, one-true}
 use Rattle.jf_standing.proofs.Counts.{count-same, count-some, count-which, count-none, count-append, count-filter, count-map}
@@ -60,7 +60,7 @@ own_written fmt s m (x ∷ xs) = (refl, own_written fmt s m xs)
 pub fresh-own : (fmt : Format) (s : Standing) (m : Map) → AllByRecursion (λ x. x.0.version ≡ s.head + 1) (landing_of fmt s m).fresh
 fresh-own fmt s m = own_written fmt s m (fresh (head_map s) m)
 
-module _ (fmt : Format) (s : Standing) (m : Map) (sound : IsSound fmt s) (keys : IsMap (head_map s)) (own_keys : IsMap m) (last : s.head + 1 < never) where
+module _ (fmt : Format) (s : Standing) (m : Map) (sound : IsSound fmt s) (keys : IsMap (head_map s)) (own_keys : IsMap m) (last : s.head + 1 < not_stale) where
   abbrev pub landing : Commit
   landing = landing_of fmt s m
 
@@ -87,7 +87,7 @@ module _ (fmt : Format) (s : Standing) (m : Map) (sound : IsSound fmt s) (keys :
   placed-stale p =
       let test : Named → Bool = λ n. is_stale (s.head + 1) n && is_at p n in
       let gone = is_fresh (entries m) (entries (head_map s)) p in
-      let new : count_by test (map unmarked_node landing.fresh) ≡ 0 = count-map test unmarked_node landing.fresh ∙ count-none (λ x. test (unmarked_node x)) landing.fresh (All-each_element _ landing.fresh (λ x has. ap (λ b. b && is_at p (unmarked_node x)) (other_number never (s.head + 1) (λ is. omega arith)))) in
+      let new : count_by test (map unmarked_node landing.fresh) ≡ 0 = count-map test unmarked_node landing.fresh ∙ count-none (λ x. test (unmarked_node x)) landing.fresh (All-each_element _ landing.fresh (λ x has. ap (λ b. b && is_at p (unmarked_node x)) (other_number not_stale (s.head + 1) (λ is. omega arith)))) in
       let old : count_by test (map (marked_node landing) s.nodes) ≡ count_by (λ n. gone && (is_alive s.head n && is_at p n)) s.nodes =
       count-map test (marked_node landing) s.nodes
       ∙ count-same (λ n. test (marked_node landing n)) (λ n. gone && (is_alive s.head n && is_at p n)) s.nodes (All-each_element _ s.nodes (λ n has.

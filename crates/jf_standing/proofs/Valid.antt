@@ -27,7 +27,7 @@ use Rattle.jf_codec.specs.declared.format.Format.TheVariants as format
 use Rattle.jf_walk.proofs.PlainLaws.{plain_node-many}
 use Rattle.jf_walk.proofs.NodePaths.{IsPath-is_node}
 use Rattle.jf_standing.specs.Sound.{is_counted}
-use Rattle.jf_standing.specs.Named.{version_at, never}
+use Rattle.jf_standing.specs.Named.{version_at, not_stale}
 use Rattle.jf_standing.specs.Standing.{Standing}
 use Rattle.jf_standing.specs.Landing.{head_map, version_after, written_node, landing_of, name_at_head, stale_names}
 use Rattle.jf_standing.proofs.Lists.{none_in_nothing, All-each_element, map-which}
@@ -149,7 +149,7 @@ node-valid fmt m version p all few versions =
 version_low : (s : Standing) (m : Map) (p : Path) → version_after s m p ≤ s.head + 1
 version_low s m p = elim (is_fresh (entries (head_map s)) (entries m) p) as (λ b. cond b (s.head + 1) (version_at s.head s.nodes p) ≤ s.head + 1) [ true ↦ omega arith | false ↦ omega (arith, version-at_most s.head s.nodes p) ]
 
-pub fresh-valid : (fmt : Format) (s : Standing) (m : Map) → IsMap m → AllByRecursion (λ (e : List ℕ × List ℕ). length e.1 ≤ 4096) (entries m) → len m ≤ 2 ^ 63 → s.head + 1 < never → AllByRecursion (λ x. IsName x.0 × IsNode fmt x.1) (landing_of fmt s m).fresh
+pub fresh-valid : (fmt : Format) (s : Standing) (m : Map) → IsMap m → AllByRecursion (λ (e : List ℕ × List ℕ). length e.1 ≤ 4096) (entries m) → len m ≤ 2 ^ 63 → s.head + 1 < not_stale → AllByRecursion (λ x. IsName x.0 × IsNode fmt x.1) (landing_of fmt s m).fresh
 fresh-valid fmt s m sound short room last = All-each_element _ (landing_of fmt s m).fresh (λ y has.
     let x = map-which (written_node fmt s m) (fresh (head_map s) m) y has in
     let is = listed-fresh (head_map s) m x.0 x.1 in
@@ -161,7 +161,7 @@ fresh-valid fmt s m sound short room last = All-each_element _ (landing_of fmt s
       subst (λ es. IsNode fmt (plain_node (is_counted fmt) (λ i. version_after s m (p ++ i ∷ [])) (length p) es)) (sym is.1) (node-valid fmt m (λ i. version_after s m (p ++ i ∷ [])) p all (omega arith) (λ i. omega (arith, version_low s m (p ++ i ∷ [])))),
     ))
 
-pub stale-valid : (fmt : Format) (s : Standing) (m : Map) → IsMap (head_map s) → s.head + 1 < never → AllByRecursion IsName (landing_of fmt s m).stale
+pub stale-valid : (fmt : Format) (s : Standing) (m : Map) → IsMap (head_map s) → s.head + 1 < not_stale → AllByRecursion IsName (landing_of fmt s m).stale
 stale-valid fmt s m keys last = All-each_element _ (landing_of fmt s m).stale (λ name has.
     let x = map-which (λ (x : Path × Part). name_at_head s x.0) (stale (head_map s) m) name (named-tells name (stale_names s m) (sym (named-in_order name (stale_names s m)) ∙ named-so name (landing_of fmt s m).stale has)) in
     let node = fresh-node (entries m) (entries (head_map s)) x.0.0 (listed-fresh m (head_map s) x.0 x.1).0 in

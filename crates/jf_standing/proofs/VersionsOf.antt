@@ -13,7 +13,7 @@ use Rattle.jf_model.proofs.ChangeLaws.{IsMap-apply}
 use Rattle.jf_codec.specs.declared.format.Format.{Format}
 use Rattle.jf_payload.specs.declared.records.Commit.{Commit}
 use Rattle.jf_standing.specs.Standing.{down_from, Standing, versions_of, with_commit, with_floor}
-use Rattle.jf_standing.specs.Named.{leaf_entries, AreEntries, map_at, never}
+use Rattle.jf_standing.specs.Named.{leaf_entries, AreEntries, map_at, not_stale}
 use Rattle.jf_standing.specs.Sound.{IsSound}
 use Rattle.jf_standing.specs.Landing.{head_map, batch_of, landing_of}
 use Rattle.jf_standing.specs.Taking.{Continues}
@@ -99,7 +99,7 @@ pub versions-landed : (fmt : Format) (s : Standing) (c : Commit) → IsSound fmt
 versions-landed fmt s c sound goes behind_sound = versions_after fmt s c (apply (head_map s) (batch_of s c)) sound goes behind_sound (map-read fmt s c sound goes behind_sound) ∙ landed_newest s (batch_of s c)
 
 -- a landing of a batch adds one version by that batch
-pub batch-landed : (fmt : Format) (s : Standing) (b : Batch) → IsSound fmt s → AreEntries (leaf_entries s.nodes) → IsBatch b → len (apply (head_map s) b) ≤ 2 ^ 63 → s.head + 1 < never
+pub batch-landed : (fmt : Format) (s : Standing) (b : Batch) → IsSound fmt s → AreEntries (leaf_entries s.nodes) → IsBatch b → len (apply (head_map s) b) ≤ 2 ^ 63 → s.head + 1 < not_stale
     → Continues s (landing_of fmt s (apply (head_map s) b)) × IsSound fmt (landed_on fmt (apply (head_map s) b) s) × (versions_of (landed_on fmt (apply (head_map s) b) s) ≡ versions_after_landing b (versions_of s))
 batch-landed fmt s b sound keys batch room last =
     let m = apply (head_map s) b in

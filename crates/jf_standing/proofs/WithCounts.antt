@@ -15,7 +15,7 @@ use Rattle.jf_codec.specs.declared.format.Format.{Format}
 use Rattle.jf_codec.specs.declared.format.Format.TheVariants as format
 use Rattle.jf_payload.specs.Counted.{commit_in}
 use Rattle.jf_standing.specs.Order.{by_name}
-use Rattle.jf_standing.specs.Named.{Named, never, version_at, map_at, leaf_entries, AreEntries}
+use Rattle.jf_standing.specs.Named.{Named, not_stale, version_at, map_at, leaf_entries, AreEntries}
 use Rattle.jf_standing.specs.Building.{apart, as_named, nodes_by_name, landed_on, built_standing, landings_of, all_landed, node_of, floor_of, up_from, rebuilt}
 use Rattle.jf_standing.specs.Standing.{Standing, with_commit, with_nodes}
 use Rattle.jf_standing.specs.Landing.{landing_of, head_map}
@@ -83,7 +83,7 @@ module _ (fmt : Format) where
   floor_nodes_kept : (version : Path → ℕ) (xs : List (Path × Part)) → map (node_of fmt version) xs ≡ map (named_in_format fmt) (map (node_of format.Two version) xs)
   floor_nodes_kept version [] = refl
   floor_nodes_kept version (x ∷ xs) =
-      ap₂ (λ (n : PlainNode) ns. (record { version = version x.0; path = x.0 }, n, never) ∷ ns) (plain_node-in fmt (λ i. version (x.0 ++ i ∷ [])) (length x.0) x.1) (floor_nodes_kept version xs)
+      ap₂ (λ (n : PlainNode) ns. (record { version = version x.0; path = x.0 }, n, not_stale) ∷ ns) (plain_node-in fmt (λ i. version (x.0 ++ i ∷ [])) (length x.0) x.1) (floor_nodes_kept version xs)
 
   floor_kept_of : (s : Standing) → floor_of fmt s ≡ standing_in fmt (floor_of format.Two s)
   floor_kept_of s = ap (λ ns. with_nodes ns (floor_of format.Two s)) (floor_nodes_kept (version_at s.floor s.nodes) (nodes (map_at s.floor s.nodes)))
@@ -97,7 +97,7 @@ module _ (fmt : Format) where
 nodes_same : (fmt : Format) (v w : Path → ℕ) (xs : List (Path × Part)) → ((p : Path) → v p ≡ w p) → map (node_of fmt v) xs ≡ map (node_of fmt w) xs
 nodes_same fmt v w [] same = refl
 nodes_same fmt v w (x ∷ xs) same =
-    ap₂ (λ (y : ℕ × PlainNode) ns. (record { version = y.0; path = x.0 }, y.1, never) ∷ ns)
+    ap₂ (λ (y : ℕ × PlainNode) ns. (record { version = y.0; path = x.0 }, y.1, not_stale) ∷ ns)
     (ap₂ (λ (a : ℕ) (n : PlainNode). (a, n)) (same x.0) (plain_node-same (is_counted fmt) (λ i. v (x.0 ++ i ∷ [])) (λ i. w (x.0 ++ i ∷ [])) (length x.0) x.1 (λ i some. same (x.0 ++ i ∷ []))))
     (nodes_same fmt v w xs same)
 

@@ -8,7 +8,7 @@ use Rattle.jf_hash.specs.Roots.{root}
 use Rattle.jf_hash.specs.Slots.{Part}
 use Rattle.jf_model.specs.Nodes.{Path, nodes, plain_node}
 use Rattle.jf_codec.specs.declared.format.Format.{Format}
-use Rattle.jf_standing.specs.Named.{Named, never, version_at, map_at}
+use Rattle.jf_standing.specs.Named.{Named, not_stale, version_at, map_at}
 use Rattle.jf_standing.specs.Order.{by_name}
 use Rattle.jf_standing.specs.Standing.{Standing, with_commit}
 use Rattle.jf_standing.specs.Sound.{is_counted}
@@ -19,7 +19,7 @@ use Rattle.jf_payload.specs.declared.records.Record.TheVariants as «record»
 
 -- a node of a map with its name, not stale; `version` gives the version of the node at each path
 abbrev pub node_of : Format → (Path → ℕ) → Path × Part → Named
-node_of fmt version x = (record { version = version x.0; path = x.0 }, plain_node (is_counted fmt) (λ i. version (x.0 ++ i ∷ [])) (length x.0) x.1, never)
+node_of fmt version x = (record { version = version x.0; path = x.0 }, plain_node (is_counted fmt) (λ i. version (x.0 ++ i ∷ [])) (length x.0) x.1, not_stale)
 
 -- a standing with one version, its floor: the nodes of one map
 abbrev pub floor_standing : Format → ℕ → ℕ → List (List ℕ) → Map → (Path → ℕ) → Standing

@@ -16,7 +16,7 @@ use Rattle.jf_codec.specs.declared.format.Format.{Format}
 use Rattle.jf_codec.specs.Spelling.{IsNode}
 use Rattle.jf_codec.specs.Counted.{uncounted_node}
 use Rattle.jf_payload.specs.declared.records.Commit.{Commit}
-use Rattle.jf_standing.specs.Named.{alive_at, map_at, leaf_entries, AreEntries, never, version_at}
+use Rattle.jf_standing.specs.Named.{alive_at, map_at, leaf_entries, AreEntries, not_stale, version_at}
 use Rattle.jf_standing.specs.Standing.{Standing, versions_of, with_commit, with_floor}
 use Rattle.jf_standing.specs.Sound.{StandAt, IsNodeOf, IsSound, is_counted}
 use Rattle.jf_standing.specs.Taking.{Continues, TakesCommits}
@@ -37,7 +37,7 @@ VersionsAreSound = (fmt : Format) (s : Standing) → IsSound fmt s → AreEntrie
 -- a landing of a map continues from the head of a sound standing and leaves a sound one, whose newest map is that map
 abbrev pub LandingsAreSound : Type 0
 LandingsAreSound =
-    (fmt : Format) (s : Standing) (m : Map) → IsSound fmt s → AreEntries (leaf_entries s.nodes) → IsMap m → len m ≤ 2 ^ 63 → s.head + 1 < never
+    (fmt : Format) (s : Standing) (m : Map) → IsSound fmt s → AreEntries (leaf_entries s.nodes) → IsMap m → len m ≤ 2 ^ 63 → s.head + 1 < not_stale
     → Continues s (landing_of fmt s m) × IsSound fmt (with_commit (landing_of fmt s m) s) × (map_at (s.head + 1) (with_commit (landing_of fmt s m) s).nodes ≡ m)
 
 -- a landing that continues from the head and leaves a sound standing is a landing of that standing's newest map
@@ -50,7 +50,7 @@ SoundIsLanding =
 abbrev pub LandingsAreDecided : Type 0
 LandingsAreDecided =
     (fmt : Format) (s : Standing) (c : Commit) → IsSound fmt s → AreEntries (leaf_entries s.nodes) → AreEntries (fresh_leaves c) → IsInOrder c
-    → (Continues s c × IsSound fmt (with_commit c s)) ↔ ((s.head + 1 < never) × (len (apply (head_map s) (batch_of s c)) ≤ 2 ^ 63) × (c ≡ landing_of fmt s (apply (head_map s) (batch_of s c))))
+    → (Continues s c × IsSound fmt (with_commit c s)) ↔ ((s.head + 1 < not_stale) × (len (apply (head_map s) (batch_of s c)) ≤ 2 ^ 63) × (c ≡ landing_of fmt s (apply (head_map s) (batch_of s c))))
 
 -- what is read off a landing is a batch
 abbrev pub ReadIsBatch : Type 0
@@ -67,13 +67,13 @@ FloorsPrune = (fmt : Format) (s : Standing) (floor : ℕ) → IsSound fmt s → 
 -- a landing of a batch leaves a sound standing, with one more version by that batch
 abbrev pub BatchesLand : Type 0
 BatchesLand =
-    (fmt : Format) (s : Standing) (b : Batch) → IsSound fmt s → AreEntries (leaf_entries s.nodes) → IsBatch b → len (apply (head_map s) b) ≤ 2 ^ 63 → s.head + 1 < never
+    (fmt : Format) (s : Standing) (b : Batch) → IsSound fmt s → AreEntries (leaf_entries s.nodes) → IsBatch b → len (apply (head_map s) b) ≤ 2 ^ 63 → s.head + 1 < not_stale
     → Continues s (landing_of fmt s (apply (head_map s) b)) × IsSound fmt (landed_on fmt (apply (head_map s) b) s) × (versions_of (landed_on fmt (apply (head_map s) b) s) ≡ versions_after_landing b (versions_of s))
 
 -- landings of batches in turn are taken, and make a version for each
 abbrev pub GroupsLand : Type 0
 GroupsLand =
-    (fmt : Format) (s : Standing) (bs : List Batch) → IsSound fmt s → AreEntries (leaf_entries s.nodes) → AllByRecursion IsBatch bs → len (head_map s) + key_count bs ≤ 2 ^ 63 → s.head + length bs < never
+    (fmt : Format) (s : Standing) (bs : List Batch) → IsSound fmt s → AreEntries (leaf_entries s.nodes) → AllByRecursion IsBatch bs → len (head_map s) + key_count bs ≤ 2 ^ 63 → s.head + length bs < not_stale
     → TakesCommits fmt s (landings_of fmt s bs) (all_landed fmt s bs) × IsSound fmt (all_landed fmt s bs) × (versions_of (all_landed fmt s bs) ≡ land_all bs (versions_of s))
 
 -- the names that a landing writes and marks stale rise, its keys have 32 bytes, and its values are bytes
@@ -83,7 +83,7 @@ LandingsAreRead = (fmt : Format) (s : Standing) (m : Map) → IsMap m → IsRead
 -- all that a landing writes has a spelling, if values have at most 4,096 bytes
 abbrev pub LandingsAreValid : Type 0
 LandingsAreValid =
-    (fmt : Format) (s : Standing) (m : Map) → AreEntries (leaf_entries s.nodes) → IsMap m → AllByRecursion (λ (e : List ℕ × List ℕ). length e.1 ≤ max_value) (entries m) → len m ≤ 2 ^ 63 → s.head + 1 < never
+    (fmt : Format) (s : Standing) (m : Map) → AreEntries (leaf_entries s.nodes) → IsMap m → AllByRecursion (λ (e : List ℕ × List ℕ). length e.1 ≤ max_value) (entries m) → len m ≤ 2 ^ 63 → s.head + 1 < not_stale
     → AllByRecursion (λ x. IsName x.0 × IsNode fmt x.1) (landing_of fmt s m).fresh × AllByRecursion IsName (landing_of fmt s m).stale × IsKey (landing_of fmt s m).root
 
 -- names that rise still rise after a landing and under a later floor

@@ -14,8 +14,8 @@ abbrev pub Named : Type 0
 Named = NodeName × PlainNode × ℕ
 
 -- stands in place of the version since which a node is stale, if the node isn't stale
-abbrev pub never : ℕ
-never = 2 ^ 64 - 1
+abbrev pub not_stale : ℕ
+not_stale = 2 ^ 64 - 1
 
 -- ---- nodes at a version
 

@@ -9,7 +9,7 @@ use Rattle.jf_codec.specs.declared.format.Format.{Format}
 use Rattle.jf_payload.specs.declared.records.Commit.{Commit}
 use Rattle.jf_payload.specs.declared.records.Record.{Record}
 use Rattle.jf_payload.specs.declared.records.Record.TheVariants as «record»
-use Rattle.jf_standing.specs.Named.{never, AreEntries, leaf_entries}
+use Rattle.jf_standing.specs.Named.{not_stale, AreEntries, leaf_entries}
 use Rattle.jf_standing.specs.Standing.{Standing, with_commit, with_floor}
 use Rattle.jf_standing.specs.Landing.{head_map, batch_of, landing_of, fresh_leaves, IsInOrder}
 use Rattle.jf_standing.specs.Same.{same_commit}
@@ -18,7 +18,7 @@ use Rattle.jf_standing.specs.Same.{same_commit}
 abbrev pub is_next : Format → Standing → Commit → Bool
 is_next fmt s c =
     let m = apply (head_map s) (batch_of s c) in
-    nat_lt (s.head + 1) never && (nat_le (len m) (2 ^ 63) && same_commit c (landing_of fmt s m))
+    nat_lt (s.head + 1) not_stale && (nat_le (len m) (2 ^ 63) && same_commit c (landing_of fmt s m))
 
 -- the standing after landings, one after another
 abbrev pub next_by_commits : Format → Standing → List Commit → Option Standing
@@ -52,7 +52,7 @@ IsReadRecord («record».Group cs) = AllByRecursion IsReadCommit cs
 pub record IsReadStanding (s : Standing) : Type 0 where
   pub base_low : s.base ≤ s.floor
   pub floor_low : s.floor ≤ s.head
-  pub head_last : s.head < never
+  pub head_last : s.head < not_stale
   pub root_each : length s.roots ≡ s.head - s.base + 1
   pub hashes : AllByRecursion IsKey s.roots
   pub keys : AreEntries (leaf_entries s.nodes)

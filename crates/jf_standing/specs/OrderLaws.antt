@@ -10,7 +10,7 @@ use Rattle.jf_model.specs.Nodes.{Path, is_node, kept_nodes}
 use Rattle.jf_model.specs.Versions.{imported_versions, new_store}
 use Rattle.jf_codec.specs.declared.format.Format.{Format}
 use Rattle.jf_codec.specs.Spelling.{IsNode}
-use Rattle.jf_standing.specs.Named.{Named, version_at, map_at, never, leaf_entries, AreEntries}
+use Rattle.jf_standing.specs.Named.{Named, version_at, map_at, not_stale, leaf_entries, AreEntries}
 use Rattle.jf_standing.specs.Standing.{Standing, versions_of, with_nodes}
 use Rattle.jf_standing.specs.Sound.{IsSound}
 use Rattle.jf_standing.specs.Taking.{GivesStanding}
@@ -44,12 +44,12 @@ OneStanding =
 -- maps landed in turn on a sound standing leave a sound standing
 abbrev pub BuiltIsSound : Type 0
 BuiltIsSound =
-    (fmt : Format) (s : Standing) (ms : List Map) → IsSound fmt s → IsMap (map_at s.head s.nodes) → AllByRecursion (λ m. IsMap m × (len m ≤ 2 ^ 63)) ms → s.head + length ms < never
+    (fmt : Format) (s : Standing) (ms : List Map) → IsSound fmt s → IsMap (map_at s.head s.nodes) → AllByRecursion (λ m. IsMap m × (len m ≤ 2 ^ 63)) ms → s.head + length ms < not_stale
     → IsSound fmt (built_standing fmt s ms) × ((built_standing fmt s ms).base ≡ s.base) × ((built_standing fmt s ms).floor ≡ s.floor) × ((built_standing fmt s ms).head ≡ s.head + length ms)
 
 -- one map whose nodes are all of one version is sound, and stands for that version alone
 abbrev pub ImportsAreSound : Type 0
-ImportsAreSound = (fmt : Format) (version : ℕ) (m : Map) → IsMap m → len m ≤ 2 ^ 63 → version < never → IsSound fmt (imported_standing fmt version m) × (versions_of (imported_standing fmt version m) ≡ imported_versions version m)
+ImportsAreSound = (fmt : Format) (version : ℕ) (m : Map) → IsMap m → len m ≤ 2 ^ 63 → version < not_stale → IsSound fmt (imported_standing fmt version m) × (versions_of (imported_standing fmt version m) ≡ imported_versions version m)
 
 -- a new store is sound, and stands for version 0 without an entry
 abbrev pub NewIsSound : Type 0

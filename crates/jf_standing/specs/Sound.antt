@@ -7,7 +7,7 @@ use Rattle.jf_hash.specs.Roots.{root}
 use Rattle.jf_model.specs.Nodes.{Path, under, is_node, is_fresh, plain_node}
 use Rattle.jf_codec.specs.declared.format.Format.{Format}
 use Rattle.jf_codec.specs.declared.format.Format.TheVariants as format
-use Rattle.jf_standing.specs.Named.{Named, never, is_alive, is_at, alive_at, written_at, stale_at, version_at, leaf_entries, map_at}
+use Rattle.jf_standing.specs.Named.{Named, not_stale, is_alive, is_at, alive_at, written_at, stale_at, version_at, leaf_entries, map_at}
 use Rattle.jf_standing.specs.Standing.{Standing}
 
 -- whether internal nodes hold the counts of their children
@@ -41,11 +41,11 @@ pub record IsStep (ns : List Named) (w : ℕ) : Type 0 where
 pub record IsSound (fmt : Format) (s : Standing) : Type 0 where
   pub base_low : s.base ≤ s.floor
   pub floor_low : s.floor ≤ s.head
-  pub head_last : s.head < never
+  pub head_last : s.head < not_stale
   pub root_each : length s.roots ≡ s.head - s.base + 1
   pub floor_nodes : StandAt (λ p. is_node 0 p (entries (map_at s.floor s.nodes))) (alive_at s.floor s.nodes)
   pub floor_root : version_at s.floor s.nodes [] ≡ s.floor
   pub versions : (w : ℕ) → s.floor ≤ w → w ≤ s.head → IsVersion fmt s.nodes w (slice_index_or s.roots (s.head - w) [])
   pub steps : (w : ℕ) → s.floor < w → w ≤ s.head → IsStep s.nodes w
   pub written : AllByRecursion (λ n. n.0.version ≤ s.head) s.nodes
-  pub gone : AllByRecursion (λ n. (n.2 ≡ never) ⊎ ((s.floor < n.2) × (n.2 ≤ s.head))) s.nodes
+  pub gone : AllByRecursion (λ n. (n.2 ≡ not_stale) ⊎ ((s.floor < n.2) × (n.2 ≤ s.head))) s.nodes

@@ -9,7 +9,7 @@ use Rattle.jf_codec.specs.declared.format.Format.{Format}
 use Rattle.jf_codec.specs.declared.format.Format.TheVariants as format
 use Rattle.jf_payload.specs.Spelling.{IsCommit, IsRecord}
 use Rattle.jf_payload.specs.Counted.{commit_in}
-use Rattle.jf_standing.specs.Named.{never, leaf_entries, AreEntries, map_at}
+use Rattle.jf_standing.specs.Named.{not_stale, leaf_entries, AreEntries, map_at}
 use Rattle.jf_standing.specs.Standing.{Standing}
 use Rattle.jf_standing.specs.Sound.{IsSound}
 use Rattle.jf_standing.specs.Landing.{landing_of}
@@ -18,7 +18,7 @@ use Rattle.jf_standing.specs.Building.{checkpoint_of}
 -- a landing is a record with a spelling, if values have at most 4,096 bytes and its lists fewer than 2^64 items
 abbrev pub LandingsAreSpelled : Type 0
 LandingsAreSpelled =
-    (fmt : Format) (s : Standing) (m : Map) → AreEntries (leaf_entries s.nodes) → IsMap m → AllByRecursion (λ (e : List ℕ × List ℕ). length e.1 ≤ max_value) (entries m) → len m ≤ 2 ^ 63 → s.head + 1 < never
+    (fmt : Format) (s : Standing) (m : Map) → AreEntries (leaf_entries s.nodes) → IsMap m → AllByRecursion (λ (e : List ℕ × List ℕ). length e.1 ≤ max_value) (entries m) → len m ≤ 2 ^ 63 → s.head + 1 < not_stale
     → length (landing_of fmt s m).fresh < 2 ^ 64 → length (landing_of fmt s m).stale < 2 ^ 64 → IsCommit fmt (landing_of fmt s m)
 
 -- what a format keeps of a landing with counts is the landing in that format

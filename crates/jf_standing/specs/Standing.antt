@@ -6,7 +6,7 @@ use Rattle.jf_path.specs.Names.{name_cmp}
 use Rattle.jf_path.specs.declared.name.NodeName.{NodeName}
 use Rattle.jf_path.specs.declared.node.PlainNode.{PlainNode}
 use Rattle.jf_model.specs.Versions.{Versions}
-use Rattle.jf_standing.specs.Named.{Named, never, map_at}
+use Rattle.jf_standing.specs.Named.{Named, not_stale, map_at}
 use Rattle.jf_payload.specs.declared.records.Commit.{Commit}
 
 -- what records have made: base, floor and head, the roots from the head down to the base, and all named nodes
@@ -42,7 +42,7 @@ marked_node c n = if is_named n.0 c.stale then (n.0, n.1, c.version) else n
 
 -- a node as it is written: not stale
 abbrev pub unmarked_node : NodeName × PlainNode → Named
-unmarked_node x = (x.0, x.1, never)
+unmarked_node x = (x.0, x.1, not_stale)
 
 -- a landing marks the nodes that it names, and adds its own nodes and its root
 abbrev pub with_commit : Commit → Standing → Standing

@@ -111,7 +111,7 @@ impl<D: Disk> Vault<D> {
         ensures count { self.pruner.known.count ≡ self.start.passes }
         ensures board { self.pruner.board ≡ self.start.board }
         ensures extended { (h : History) → self.start.history ≡ Some h → (g : History) × (self.engine.history ≡ Some g) × ExtendsHistory h g }
-        ensures untold { self.start.history ≡ None → self.engine.history ≡ None }
+        ensures unknown { self.start.history ≡ None → self.engine.history ≡ None }
     {
         let Vault {
             engine,

@@ -21,7 +21,7 @@ pub(crate) fn cut_side<D: Disk>(alloc: Global, disk: &mut D, side: Side) -> Resu
     ensures stop { (h : History) → D.history disk.old ≡ Some h → (g : History) × (D.history disk.new ≡ Some g) × StopsInBegin side h g }
     ensures damaged { (h : History) (where_ : Side) (at : ℕ) → D.history disk.old ≡ Some h → result ≡ Err (PairFault.Damaged where_ at) → records (content_on side h.now).bytes ≡ Err at }
     ensures err { (h : History) (why : PairFault) → D.history disk.old ≡ Some h → result ≡ Err why → (why ≡ PairFault.DiskFault) ⊎ ((g : History) × (D.history disk.new ≡ Some g) × Idles h g) }
-    ensures nothing { (h : History) → D.history disk.old ≡ Some h → IfOk result (λ n. n ≡ 0 → (g : History) × (D.history disk.new ≡ Some g) × Idles h g) }
+    ensures uncut { (h : History) → D.history disk.old ≡ Some h → IfOk result (λ n. n ≡ 0 → (g : History) × (D.history disk.new ≡ Some g) × Idles h g) }
     ensures elapsed { IfOk result (λ n. n ≡ 0 → D.moment disk.new ≡ D.moment disk.old + 1) }
     ensures calls { CallsOn (D.history disk.old) (D.moment disk.old) (D.faults disk.old) (D.history disk.new) (D.moment disk.new) (D.faults disk.new) (result ≡ Err PairFault.DiskFault) }
     ensures calm { OnOk result (D.faults disk.new ≡ D.faults disk.old) }

@@ -58,12 +58,12 @@ module _ {V E O : Type 0} (list : V → List E) (names : E → ℕ) (start_of : 
   others_follow id v entries own = λ e has own_name. let less = own (length v.seen + has.0) e (at_drop entries (length v.seen) has.0 e has.1) own_name in omega arith
 
 module _ {E O V : Type 0} where
-  abbrev Told : SeatView E O × List (ℕ × Option V) → ℕ → ℕ → Type 0
-  Told m number seen = (number ≡ m.0.number) × (seen ≡ length m.0.seen) × Carries m.0.stage m.1 × HasElement m.0.numbers m.0.number
+  abbrev EntryList : SeatView E O × List (ℕ × Option V) → ℕ → ℕ → Type 0
+  EntryList m number seen = (number ≡ m.0.number) × (seen ≡ length m.0.seen) × Carries m.0.stage m.1 × HasElement m.0.numbers m.0.number
 
   -- what a seat keeps beside its token, after the join
-  pub told_joined : (v w : SeatView E O) (m : SeatView E O × List (ℕ × Option V)) (number seen : ℕ) → m ≡ (views_joined v w, []) → v.stage ≡ Idle → number ≡ v.number → HasElement v.numbers v.number → seen ≡ length (longer v.seen w.seen) → Told m number seen
-  told_joined v w m number seen e idle n has s = subst (λ x. Told x number seen) (sym e) (n, s, subst (λ (st : Stage E). Carries {V = V} st []) (sym idle) refl, (has.0, at_longer v.numbers w.numbers has.0 v.number has.1))
+  pub told_joined : (v w : SeatView E O) (m : SeatView E O × List (ℕ × Option V)) (number seen : ℕ) → m ≡ (views_joined v w, []) → v.stage ≡ Idle → number ≡ v.number → HasElement v.numbers v.number → seen ≡ length (longer v.seen w.seen) → EntryList m number seen
+  told_joined v w m number seen e idle n has s = subst (λ x. EntryList x number seen) (sym e) (n, s, subst (λ (st : Stage E). Carries {V = V} st []) (sym idle) refl, (has.0, at_longer v.numbers w.numbers has.0 v.number has.1))
 
 module _ {E O : Type 0} where
   -- the maker, which has seen nothing, is shown as a new seat

@@ -4,14 +4,14 @@ ghost use Rattle.jf_turn.specs.declared.view.Stage.TheVariants.{Opening, Holding
 ghost use Rattle.jf_turn.specs.Lists.{HasElement};
 ghost use Rattle.jf_turn.specs.Steps.{at_stage, released_seat};
 
+use crate::entry_list::EntryList;
 use crate::steps::{Birth, Move, Release};
-use crate::told::Told;
 use crate::turn::Turn;
 use crate::view::SeatView;
 use atomic_table::Seat as Token;
 
 /// Puts the value into the slot that the token has.
-fn put_in<V: Told>(
+fn put_in<V: EntryList>(
     turn: &Turn<V>,
     token: &mut Token<Option<V>, SeatView<V::Entry, V::Start>>,
     value: V,
@@ -25,7 +25,7 @@ fn put_in<V: Told>(
 }
 
 /// The first seat takes the slot, which is empty.
-pub(crate) fn begin<V: Told>(
+pub(crate) fn begin<V: EntryList>(
     turn: &Turn<V>,
     token: &mut Token<Option<V>, SeatView<V::Entry, V::Start>>,
 )
@@ -38,7 +38,7 @@ pub(crate) fn begin<V: Told>(
 
 /// Brings home a value whose list goes on from that of the value taken, and wakes a thread that waits; with one seat
 /// nobody can wait, and the system isn't asked.
-pub(crate) fn bring<V: Told>(
+pub(crate) fn bring<V: EntryList>(
     turn: &Turn<V>,
     token: &mut Token<Option<V>, SeatView<V::Entry, V::Start>>,
     value: V,

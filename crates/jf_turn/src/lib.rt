@@ -4,6 +4,7 @@
 
 mod claiming;
 mod closing;
+mod entry_list;
 mod giving;
 mod laws;
 mod note;
@@ -12,10 +13,10 @@ mod rule;
 mod seat;
 mod seating;
 mod steps;
-mod told;
 mod turn;
 mod view;
 
+pub use entry_list::EntryList;
 pub use laws::{
     free_turn_has_its_value, holder_keeps_the_list, numbers_were_given, one_seat_holds,
     own_entries_are_seen, seats_stand_apart, seen_lists_agree,
@@ -23,5 +24,4 @@ pub use laws::{
 pub use note::Note;
 pub use opening::TurnRefused;
 pub use seat::Seat;
-pub use told::Told;
 pub use turn::Turn;

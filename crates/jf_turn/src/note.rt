@@ -4,9 +4,9 @@ ghost use Rattle.jf_turn.specs.declared.view.Stage.TheVariants.{Idle};
 ghost use Rattle.jf_turn.specs.Lists.{StartsWith};
 ghost use Rattle.jf_turn.specs.Seats.{IsSeatOf, IsNoteOf, OthersFollow, note_of, learning, note_state};
 
+use crate::entry_list::EntryList;
 use crate::seat::Seat;
 use crate::seating::{join, write_down};
-use crate::told::Told;
 use crate::turn::Turn;
 use crate::view::SeatView;
 use atomic_table::Seat as Token;
@@ -14,12 +14,12 @@ use std::marker::Model;
 
 /// A front of a turn's list, as a seat had seen it. It stands for no number, so it can be made and learned while
 /// another seat holds the turn.
-pub struct Note<V: Told> {
+pub struct Note<V: EntryList> {
     token: Token<Option<V>, SeatView<V::Entry, V::Start>>,
     seen: u64,
 }
 
-impl<V: Told> Model for Note<V> {
+impl<V: EntryList> Model for Note<V> {
     ghost use Rattle.std.specs.Prelude.{◌≡◌, [], length};
     ghost use Rattle.jf_turn.specs.declared.view.Stage.TheVariants.{Idle};
     ghost use Rattle.jf_turn.specs.Seats.{NoteState, note_state};
@@ -31,13 +31,13 @@ impl<V: Told> Model for Note<V> {
     ghost invariant = { λ n. (n.seen ≡ length n.token.me.0.seen) × (n.token.me.0.stage ≡ Idle) × (n.token.me.0.numbers ≡ []) × (n.token.me.1 ≡ []) };
 }
 
-impl<V: Told> Drop for Note<V> {
+impl<V: EntryList> Drop for Note<V> {
     fn drop(self) {
         let Self { token: _, seen: _ } = self;
     }
 }
 
-impl<V: Told> Note<V> {
+impl<V: EntryList> Note<V> {
     fn into_token(self) -> Token<Option<V>, SeatView<V::Entry, V::Start>>
         ensures { (note_state result.table_id result.me.0 ≡ self) × (result.me.0.stage ≡ Idle) × (result.me.0.numbers ≡ []) × (result.me.1 ≡ []) }
     {
@@ -68,7 +68,7 @@ impl<V: Told> Note<V> {
     }
 }
 
-impl<V: Told> Seat<V> {
+impl<V: EntryList> Seat<V> {
     /// Writes down what the seat has seen. It waits for nobody.
     pub fn note(&mut self, turn: &Turn<V>) -> Note<V>
         // The seat is one of this turn's.

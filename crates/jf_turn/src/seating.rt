@@ -6,14 +6,14 @@ ghost use Rattle.jf_turn.specs.declared.view.Stage.TheVariants.{Idle};
 ghost use Rattle.jf_turn.specs.Lists.{HasElement, StartsWith};
 ghost use Rattle.jf_turn.specs.Steps.{minted_view, maker_left, seat_right, note_right, views_joined};
 
+use crate::entry_list::EntryList;
 use crate::steps::{Both, Compare, Noting, Number, Seating};
-use crate::told::Told;
 use crate::turn::Turn;
 use crate::view::SeatView;
 use atomic_table::Seat as Token;
 
 /// Draws one more number for the maker, and makes a seat for the one that the maker had.
-pub(crate) fn make_seat<V: Told>(
+pub(crate) fn make_seat<V: EntryList>(
     turn: &Turn<V>,
     token: &mut Token<Option<V>, SeatView<V::Entry, V::Start>>,
 ) -> Token<Option<V>, SeatView<V::Entry, V::Start>>
@@ -29,7 +29,7 @@ pub(crate) fn make_seat<V: Told>(
 }
 
 /// Makes a token without a number, which has seen what this one has seen.
-pub(crate) fn write_down<V: Told>(
+pub(crate) fn write_down<V: EntryList>(
     turn: &Turn<V>,
     token: &mut Token<Option<V>, SeatView<V::Entry, V::Start>>,
 ) -> Token<Option<V>, SeatView<V::Entry, V::Start>>
@@ -42,7 +42,7 @@ pub(crate) fn write_down<V: Told>(
 }
 
 /// Makes one token of two, which stands for the numbers of both.
-pub(crate) fn join<V: Told>(
+pub(crate) fn join<V: EntryList>(
     turn: &Turn<V>,
     token: &mut Token<Option<V>, SeatView<V::Entry, V::Start>>,
     other: Token<Option<V>, SeatView<V::Entry, V::Start>>,

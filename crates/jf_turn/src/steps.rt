@@ -1,42 +1,42 @@
 //! What each kind of step on the table tells the seat that takes it.
 ghost use Rattle.jf_turn.specs.Steps.{turn_claim, turn_birth, turn_move, turn_release, seat_numbering, list_comparison, maker_left, seat_right, note_right, views_joined, spent_view};
 
-use crate::told::Told;
+use crate::entry_list::EntryList;
 use crate::view::SeatView;
 use atomic_table::{Join, Play, Split};
 
 /// A turn word that is even becomes odd.
 pub(crate) struct Claim;
 
-impl<V: Told> Play<Option<V>, SeatView<V::Entry, V::Start>> for Claim {
+impl<V: EntryList> Play<Option<V>, SeatView<V::Entry, V::Start>> for Claim {
     ghost then = { turn_claim V.list V.names V.start };
 }
 
 /// The first seat takes the empty slot.
 pub(crate) struct Birth;
 
-impl<V: Told> Play<Option<V>, SeatView<V::Entry, V::Start>> for Birth {
+impl<V: EntryList> Play<Option<V>, SeatView<V::Entry, V::Start>> for Birth {
     ghost then = { turn_birth V.list V.names V.start };
 }
 
 /// The word of a held turn counts the entries of the value that is to come home.
 pub(crate) struct Move;
 
-impl<V: Told> Play<Option<V>, SeatView<V::Entry, V::Start>> for Move {
+impl<V: EntryList> Play<Option<V>, SeatView<V::Entry, V::Start>> for Move {
     ghost then = { turn_move V.list V.names V.start };
 }
 
 /// The word becomes even, and the value is at home in the slot.
 pub(crate) struct Release;
 
-impl<V: Told> Play<Option<V>, SeatView<V::Entry, V::Start>> for Release {
+impl<V: EntryList> Play<Option<V>, SeatView<V::Entry, V::Start>> for Release {
     ghost then = { turn_release V.list V.names V.start };
 }
 
 /// The count of numbers rises by one.
 pub(crate) struct Number;
 
-impl<V: Told> Play<Option<V>, SeatView<V::Entry, V::Start>> for Number {
+impl<V: EntryList> Play<Option<V>, SeatView<V::Entry, V::Start>> for Number {
     ghost then = { seat_numbering V.list V.names V.start };
 }
 
@@ -44,7 +44,7 @@ impl<V: Told> Play<Option<V>, SeatView<V::Entry, V::Start>> for Number {
 /// number of the seat that had seen the shorter.
 pub(crate) struct Compare;
 
-impl<V: Told> Play<Option<V>, SeatView<V::Entry, V::Start>> for Compare {
+impl<V: EntryList> Play<Option<V>, SeatView<V::Entry, V::Start>> for Compare {
     ghost then = { list_comparison V.list V.names V.start };
 }
 

@@ -54,7 +54,7 @@ pub(crate) fn pieces_in(
 /// The number of workers that each of so many pieces may have, if all together have `workers`: an equal share, rounded
 /// down, but at least one.
 pub(crate) fn workers_each(workers: Workers, pieces: usize) -> Workers
-    ensures no_pieces { pieces ≡ 0 → result ≡ 1 }
+    ensures zero { pieces ≡ 0 → result ≡ 1 }
     ensures enough { workers ≤ pieces → result ≡ 1 }
     ensures divided { 1 ≤ pieces → pieces < workers → result ≡ workers / pieces }
     ensures shared { (result ≡ 1) ⊎ (result * pieces ≤ workers) }

@@ -10,7 +10,7 @@ use Rattle.std.proofs.lemmas.Bool.{and_parts}
 use Rattle.std.proofs.lemmas.Map.Text.{is_eq-slice_cmp}
 use Rattle.std.proofs.lemmas.Slice.Eq.{bytes_eq-Decides}
 use Rattle.jf_verify.specs.declared.accepted.Accepted.{Accepted}
-use Rattle.jf_verify.specs.Kept.{Subject, subject_cmp, subject_of, Table, claim_on, table_with_claim}
+use Rattle.jf_verify.specs.Kept.{Subject, subject_cmp, subject_of, AcceptedClaims, claim_on, table_with_claim}
 
 -- ---- subjects
 -- whether a claim is on a subject
@@ -67,7 +67,7 @@ at_other q k e u v rest false true apart h t = refl
 at_other q k e u v rest false false apart h t = refl
 
 module _ (k : Subject) (v : Accepted) (q : Subject) where
-  at_entry : (e : Subject × Accepted) (es : Table) (o : Ordering) → subject_cmp k e.0 ≡ o
+  at_entry : (e : Subject × Accepted) (es : AcceptedClaims) (o : Ordering) → subject_cmp k e.0 ≡ o
       → lookup (is_at (subject_cmp q)) (insert_entry subject_cmp es k v) ≡ cond (is_at (subject_cmp k) q) (Some v) (lookup (is_at (subject_cmp q)) es)
       → lookup (is_at (subject_cmp q)) (match_ordering o ((k, v) ∷ e ∷ es) ((e.0, v) ∷ es) (e ∷ insert_entry subject_cmp es k v)) ≡ cond (is_at (subject_cmp k) q) (Some v) (lookup (is_at (subject_cmp q)) (e ∷ es))
   at_entry e es Less is others = ap (λ t. cond t (Some v) (lookup (is_at (subject_cmp q)) (e ∷ es))) (is_at-sym q k)
@@ -80,11 +80,11 @@ module _ (k : Subject) (v : Accepted) (q : Subject) where
       ap (λ r. cond (is_at (subject_cmp q) e.0) (Some e.1) r) others
       ∙ at_other q k e.0 e.1 v (lookup (is_at (subject_cmp q)) es) (is_at (subject_cmp k) q) (is_at (subject_cmp q) e.0) (ap is_eq is) refl refl
 
-  lookup-inserted : (es : Table) → lookup (is_at (subject_cmp q)) (insert_entry subject_cmp es k v) ≡ cond (is_at (subject_cmp k) q) (Some v) (lookup (is_at (subject_cmp q)) es)
+  lookup-inserted : (es : AcceptedClaims) → lookup (is_at (subject_cmp q)) (insert_entry subject_cmp es k v) ≡ cond (is_at (subject_cmp k) q) (Some v) (lookup (is_at (subject_cmp q)) es)
   lookup-inserted [] = ap (λ t. cond t (Some v) None) (is_at-sym q k)
   lookup-inserted (e ∷ es) = at_entry e es (subject_cmp k e.0) refl (lookup-inserted es)
 
 -- on each subject a table has its old claim, but for the one that was entered
-pub claim_on-entered : (table : Table) (a : Accepted) (s : Subject) → claim_on (table_with_claim table a) s ≡ cond (is_on s a) (Some a) (claim_on table s)
+pub claim_on-entered : (table : AcceptedClaims) (a : Accepted) (s : Subject) → claim_on (table_with_claim table a) s ≡ cond (is_on s a) (Some a) (claim_on table s)
 unfolding claim_on table_with_claim
 claim_on-entered table a s = lookup-inserted (subject_of a) a s table ∙ ap (λ t. cond t (Some a) (lookup (is_at (subject_cmp s)) table)) (is_at-parts (subject_of a) s)

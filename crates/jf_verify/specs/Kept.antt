@@ -25,24 +25,24 @@ abbrev pub subject_of : Accepted → Subject
 subject_of a = (a.root, a.judged.key)
 
 -- claims by their subjects, in the order of these: at most one on each
-abbrev pub Table : Type 0
-Table = List (Subject × Accepted)
+abbrev pub AcceptedClaims : Type 0
+AcceptedClaims = List (Subject × Accepted)
 
 -- the claim on a subject
-unfoldable pub claim_on : Table → Subject → Option Accepted
+unfoldable pub claim_on : AcceptedClaims → Subject → Option Accepted
 claim_on table s = lookup (is_at (subject_cmp s)) table
 
 -- the table with this claim on its subject
-unfoldable pub table_with_claim : Table → Accepted → Table
+unfoldable pub table_with_claim : AcceptedClaims → Accepted → AcceptedClaims
 table_with_claim table a = insert_entry subject_cmp table (subject_of a) a
 
 -- ---- at most two claims on a subject
 -- the claims that are kept
 pub record Kept : Type 0 where
   -- the first on each subject
-  pub firsts : Table
+  pub firsts : AcceptedClaims
   -- the first on each subject that differs from the first one
-  pub others : Table
+  pub others : AcceptedClaims
 
 -- no claim
 abbrev pub nothing_kept : Kept

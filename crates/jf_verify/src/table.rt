@@ -18,10 +18,10 @@ pub struct ClaimTable {
 }
 
 impl Model for ClaimTable {
-    ghost use Rattle.jf_verify.specs.Kept.{Table};
+    ghost use Rattle.jf_verify.specs.Kept.{AcceptedClaims};
     ghost use Rattle.jf_verify.specs.Accepted.{AreAccepted};
 
-    ghost Value = { Table };
+    ghost Value = { AcceptedClaims };
 
     ghost view = { λ t. t.claims.entries };
 

@@ -3,7 +3,7 @@ ghost use Rattle.jf_path.specs.Limits.{max_sessions};
 ghost use Rattle.jf_turn.specs.Lists.{HasElement};
 ghost use Rattle.jf_turn.specs.Seats.{IsSeatOf, AreNewSeats};
 
-use jf_turn::{Seat, Told, Turn, TurnRefused};
+use jf_turn::{EntryList, Seat, Turn, TurnRefused};
 use std::alloc::Global;
 use std::sync::Wait;
 use std::test::Fail;
@@ -30,7 +30,7 @@ struct Marks {
     start: u64,
 }
 
-impl Told for Marks {
+impl EntryList for Marks {
     type Entry = Mark;
 
     type Start = u64;

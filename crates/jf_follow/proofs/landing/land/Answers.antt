@@ -1,12 +1,12 @@
 use Rattle.std.proofs.Common.{◌≤◌, ap, ◌∙◌, arith}
 use Rattle.jf_engine.specs.declared.fault.LandFault.TheVariants as land_fault
-use Rattle.jf_follow.specs.Following.{told_landing}
+use Rattle.jf_follow.specs.Following.{announced_landing}
 use Rattle.jf_follow.proofs.Takings.{landed_taken, differs_taken, last_taken, fault_taken}
 use Rattle.jf_follow.proofs.landing.land.Goals as goal
 
 pub returns-in-Ok : goal.returns-in-Ok
 returns-in-Ok g c =
-    let b = told_landing c.args.version c.args.root.now c.args.batch.now in
+    let b = announced_landing c.args.version c.args.root.now c.args.batch.now in
     let v = c.args.engine.now.versions in
     let base = c.know.ensures.sound.base_first in
     let floor = c.know.ensures.sound.floor_first in
@@ -15,7 +15,7 @@ returns-in-Ok g c =
 
 pub returns-in-Err-Differs : goal.returns-in-Err-Differs
 returns-in-Err-Differs g c =
-    let b = told_landing c.args.version c.args.root.now c.args.batch.now in
+    let b = announced_landing c.args.version c.args.root.now c.args.batch.now in
     let v = c.args.engine.now.versions in
     let base = c.know.ensures.sound.base_first in
     let floor = c.know.ensures.sound.floor_first in
@@ -24,7 +24,7 @@ returns-in-Err-Differs g c =
 
 pub returns-in-Err-Refused-Last : goal.returns-in-Err-Refused-Last
 returns-in-Err-Refused-Last g c =
-    let b = told_landing c.args.version c.args.root.now c.args.batch.now in
+    let b = announced_landing c.args.version c.args.root.now c.args.batch.now in
     let v = c.args.engine.now.versions in
     let base = c.know.ensures.sound.base_first in
     let floor = c.know.ensures.sound.floor_first in
@@ -34,7 +34,7 @@ returns-in-Err-Refused-Last g c =
 
 pub returns-in-Err-Refused-DiskFault : goal.returns-in-Err-Refused-DiskFault
 returns-in-Err-Refused-DiskFault g c =
-    let b = told_landing c.args.version c.args.root.now c.args.batch.now in
+    let b = announced_landing c.args.version c.args.root.now c.args.batch.now in
     let v = c.args.engine.now.versions in
     let base = c.know.ensures.sound.base_first in
     let floor = c.know.ensures.sound.floor_first in

@@ -2,8 +2,8 @@ use Rattle.jf_follow.specs.Lines.{follow_state}
 use Rattle.jf_follow.proofs.Streamed.{fed_so, came_so, followed_whole, starts, no_cause}
 use Rattle.jf_follow.proofs.stream.follow_stream.Goals as goal
 
-pub how_ended-how-requires-clause-unwritten : goal.how_ended-how-requires-clause-unwritten
-how_ended-how-requires-clause-unwritten g c = λ _ _ is. no_cause (c.feed-fed.ensures.write is)
+pub how_ended-how-requires-clause-unstopped : goal.how_ended-how-requires-clause-unstopped
+how_ended-how-requires-clause-unstopped g c = λ _ _ is. no_cause (c.feed-fed.ensures.write is)
 
 pub returns-clause-followed : goal.returns-clause-followed
 returns-clause-followed g c =

@@ -10,6 +10,6 @@ returns-in-Done-clause-names g c =
     subst (λ es. HasNames es source source') (sym c.end.ensures)
     (read-all c.new-reader.result c.feed.new.machine c.new-reader.ensures source source' None None c.in-Done.ensures.fed)
 
-pub returns-in-Stopped-clause-stop : goal.returns-in-Stopped-clause-stop
-returns-in-Stopped-clause-stop g c =
+pub returns-in-Stopped-clause-stopped : goal.returns-in-Stopped-clause-stopped
+returns-in-Stopped-clause-stopped g c =
     read-stopped c.new-reader.result c.feed.new.machine c.new-reader.ensures (g.S.Source.rest c.args.source.now) (g.S.Source.rest c.feed.new.source) None None c.in-Stopped.why c.in-Stopped.ensures.fed

@@ -18,8 +18,8 @@ returns-then-size-le1-clause-stop g c = λ h told.
     let x = idle_went h _ _ told c.in_ok-size.ensures.ok in
     (x.0, x.1, idle_stops c.args.side h x.0 (c.requires h told) x.2)
 
-pub returns-then-size-le1-clause-nothing : goal.returns-then-size-le1-clause-nothing
-returns-then-size-le1-clause-nothing g c = λ h told _. idle_went h _ _ told c.in_ok-size.ensures.ok
+pub returns-then-size-le1-clause-uncut : goal.returns-then-size-le1-clause-uncut
+returns-then-size-le1-clause-uncut g c = λ h told _. idle_went h _ _ told c.in_ok-size.ensures.ok
 
 pub returns-in_err-cut_to_gate-clause-stop : goal.returns-in_err-cut_to_gate-clause-stop
 returns-in_err-cut_to_gate-clause-stop g c = λ h told.

@@ -14,8 +14,8 @@ returns-in_default-clause-refused c =
     let none : length c.args.bytes.now ≡ 0 = search rules in
     sym (fault_of_none c.args.bytes.now none)
 
-pub of_packed-requires-clause-short : goal.of_packed-requires-clause-short
-of_packed-requires-clause-short c = (sound c.in-Some.count.now c.in-Some.packed.now (sym c.fault_of.ensures ∙ c.in-None.is)).short
+pub of_packed-requires-clause-bounded : goal.of_packed-requires-clause-bounded
+of_packed-requires-clause-bounded c = (sound c.in-Some.count.now c.in-Some.packed.now (sym c.fault_of.ensures ∙ c.in-None.is)).short
 
 pub of_packed-requires-clause-long : goal.of_packed-requires-clause-long
 of_packed-requires-clause-long c = (sound c.in-Some.count.now c.in-Some.packed.now (sym c.fault_of.ensures ∙ c.in-None.is)).long

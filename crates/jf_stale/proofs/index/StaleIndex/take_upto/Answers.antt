@@ -8,8 +8,8 @@ use Rattle.jf_stale.proofs.GroupLaws.{rising-changed}
 use Rattle.jf_stale.proofs.GroupMarks.{all-later, hold-rest, least-first, taken-first}
 use Rattle.jf_stale.proofs.index.StaleIndex.take_upto.Goals as goal
 
-pub returns-then-since-floor-clause-none : goal.returns-then-since-floor-clause-none
-returns-then-since-floor-clause-none c =
+pub returns-then-since-floor-clause-given : goal.returns-then-since-floor-clause-given
+returns-then-since-floor-clause-given c =
     let late : c.args.floor < c.in_ok-front.field-0.now.0 = subst (λ n. c.args.floor < n) c.since-since.ensures c.if-since-floor.true in (
       λ no. subst (All (λ (m : Mark). c.args.floor < m.0)) (c.drop_empty.ensures.marks ∙ c.self.view_is) (all-later c.args.floor c.drop_empty.new.groups.items c.in_ok-front.field-0.now c.drop_empty.ensures.sorted c.in_ok-front.ensures.lookup late),
       λ all. refl,
@@ -40,8 +40,8 @@ pub returns-clause-least : goal.returns-clause-least
 returns-clause-least c =
     least-first (c.since-since.result, c.take_first-name.result) (marks_in c.drop_empty-2.new.groups.items) (subst AreAscendingMarks (c.self.view_is ∙ parted c) c.self.invariant.ascending)
 
-pub returns-clause-none : goal.returns-clause-none
-returns-clause-none c = (
+pub returns-clause-given : goal.returns-clause-given
+returns-clause-given c = (
   λ no. absurd (true≢false no),
   λ all.
       let late : c.args.floor < c.since-since.result = All-head (λ (m : Mark). c.args.floor < m.0) (c.since-since.result, c.take_first-name.result) (marks_in c.drop_empty-2.new.groups.items) (subst (All (λ (m : Mark). c.args.floor < m.0)) (parted c) all) in
