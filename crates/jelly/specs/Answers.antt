@@ -59,7 +59,7 @@ abbrev pub IsSoundAsk : List ℕ → List ℕ → List ℕ → List ℕ → ℕ 
 IsSoundAsk top name text room n number =
     (m : Map) (claim : Option (List ℕ)) → IsMap m → root m ≡ top → told_claim room n number ≡ Some claim → claim ≢ get m (K name) → Collides (lookup_clash m name text)
 
--- after 2 the name has a value in a map with the root, and of the length that is told, or two different lists with one SHA-256 are at hand
+-- after 2 the name has a value of the returned length in a map with the root, or two lists colliding in SHA-256 are at hand
 abbrev pub IsSoundRoom : List ℕ → List ℕ → List ℕ → ℕ → ℕ → Type 0
 IsSoundRoom top name text n number =
     (m : Map) → IsMap m → root m ≡ top → number ≡ 2 → option_map length (get m (K name)) ≢ Some n → Collides (lookup_clash m name text)

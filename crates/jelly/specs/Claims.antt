@@ -1,4 +1,4 @@
--- What the flat parts of a claim stand for, its verdict as a number, and what follows from one.
+-- What the flat parts of a claim represent, its verdict as a number, and what follows from one.
 use Rattle.std.specs.Prelude.{◌≡◌, ◌≢◌, ℕ, ◌==◌, List, Option, Some, None, if◌then◌else◌}
 use Rattle.std.specs.FinMap.{get}
 use Rattle.jf_hash.specs.Hashes.{K}

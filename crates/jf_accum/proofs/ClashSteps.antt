@@ -144,7 +144,7 @@ three false true d w x z h = absurd (cc)
 three false false true w x z h = absurd (cc)
 three false false false w x z h = (refl, refl, refl)
 
--- a path that is accepted is at a place, is as long as it should be and comes to the total
+-- a path that is accepted is at a place, is as long as it should be and results in the total
 pub record IsAcceptedMember (t : List ℕ) (len i : ℕ) (h : List ℕ) (path : Path) : Type 0 where
   pub place : i < len
   pub count : length path ≡ member_count len i
@@ -183,7 +183,7 @@ extension-accepted o m t len path ok =
     let count : (length path == extension_count len m) ≡ true = not-false _ tests.1 in
     record { positive = grind (arith, nat_tests); within = grind (arith, nat_tests); count = grind (arith, nat_tests); old_top = (bytes_eq-Decides _ _).0 (not-false _ tests.2); top = (bytes_eq-Decides _ _).0 (not-false _ tests.3) }
 
--- what an accepted extension comes to, from slices of the lists
+-- the result of an accepted extension, from slices of the lists
 pub accepted-totals : (old list proof olds hashes path : Path) (o : List ℕ) → olds ≡ old → hashes ≡ list → path ≡ proof → o ≡ total olds
     → extension_totals o (length olds) (length hashes) (reverse path) ≡ extension_totals (total old) (length old) (length list) (reverse proof)
 accepted-totals old list proof olds hashes path o is_o is_h is_p is =

@@ -14,7 +14,7 @@ use Rattle.jf_accum.proofs.ClashSteps.{cut-total}
 abbrev Pair : Type 0
 Pair = List ℕ × List ℕ
 
--- what an extension comes to, the lowest total first
+-- the result of an extension given with the lowest total first
 abbrev pub totals : List ℕ → ℕ → ℕ → Path → Pair
 totals ot m len path = extension_totals ot m len (reverse path)
 

@@ -1,4 +1,4 @@
--- The honest extension is made of the extension of a part, and comes to both totals.
+-- The honest extension consists of the extension of a part, and results in both totals.
 use Rattle.std.specs.Prelude.{◌≡◌, ℕ, zero, suc, ◌+◌, ◌-◌, ◌<◌, ◌≤◌, Bool, true, false, nat_lt, nat_le, if◌then◌else◌, List, [], ◌∷◌, ◌++◌, length, reverse, take, drop, ◌==◌, ◌||◌}
 use Rattle.std.proofs.Common.{arith, sym, ap, ap₂, ◌∙◌, refl, inl, inr, length-append, length-take}
 use Rattle.std.proofs.lemmas.Bool.{cases_lt, cases_eq}
@@ -142,7 +142,7 @@ extension_count_in-right len m whole two hi within =
     ap (λ n. extension_count_below n len m whole) less.1 ∙ extension_count_below-split less.0 len m whole part ∙ passed_over _ _ _ (le_no m k hi)
     ∙ ap (λ e. 1 + e) (extension_count_below-enough less.0 (len - k) (len - k) (m - k) false (omega (arith, less.1)) (omega arith) (omega arith) (omega arith))
 
--- ---- what an extension comes to
+-- ---- the result of an extension
 pub extension_totals-none : (old : List ℕ) (m len : ℕ) → extension_totals old m len [] ≡ (old, old)
 unfolding extension_totals
 extension_totals-none old m len = refl
@@ -266,7 +266,7 @@ extension_in-totals (suc n) old hs m whole short some within is =
           ]
     ]
 
--- the honest extension comes to both totals
+-- the honest extension results in both totals
 pub extension-totals : (hs : List (List ℕ)) (m : ℕ) → 0 < m → m ≤ length hs → extension_totals (total (take m hs)) m (length hs) (reverse (extension hs m)) ≡ (total (take m hs), total hs)
 extension-totals hs m some within = extension_in-totals (length hs) (total (take m hs)) hs m true (omega arith) some within refl
 
@@ -305,7 +305,7 @@ extension_count_in-within_len (suc n) len m whole short some within =
 pub extension_count_in-bound : (len m : ℕ) (whole : Bool) → 0 < m → m ≤ len → extension_count_in len m whole ≤ len
 extension_count_in-bound len m whole some within = extension_count_in-within_len len len m whole (omega arith) some within
 
--- what an extension with one total more, on top, comes to
+-- the result of an extension with one total more, on top
 pub both-none : (old : List ℕ) (m len : ℕ) (path : Path) → length path ≡ 0 → (old, old) ≡ extension_totals old m len (reverse path)
 both-none old m len [] none = sym (extension_totals-none old m len)
 both-none old m len (s ∷ path) none = absurd (omega arith)

@@ -1,4 +1,4 @@
--- The honest path of a hash is made of the path in its part, and comes to the total.
+-- The honest path of a hash consists of the path in its part, and results in the total.
 use Rattle.std.specs.Prelude.{◌≡◌, ℕ, zero, suc, ◌+◌, ◌-◌, ◌<◌, ◌≤◌, Bool, true, false, nat_lt, nat_le, if◌then◌else◌, List, [], ◌∷◌, ◌++◌, length, reverse, ◌==◌, not, bytes_eq}
 use Rattle.std.proofs.Common.{arith, sym, ap, ap₂, ◌∙◌, refl, get_or, inl, inr, length-append}
 use Rattle.std.proofs.lemmas.Bool.{cases_lt}
@@ -102,7 +102,7 @@ member_count-left len i two lt = member_count-split len i two ∙ chosen _ _ _ (
 pub member_count-right : (len i : ℕ) → 1 < len → left_count len ≤ i → member_count len i ≡ 1 + member_count (len - left_count len) (i - left_count len)
 member_count-right len i two ge = member_count-split len i two ∙ passed_over _ _ _ (lt_no i (left_count len) ge)
 
--- ---- what a path comes to
+-- ---- the result of a path
 pub member_total-none : (len i : ℕ) (h : List ℕ) → member_total len i h [] ≡ A h
 unfolding member_total
 member_total-none len i h = refl
@@ -170,7 +170,7 @@ member_total-within (suc n) (h ∷ g ∷ hs) i short lt =
           ∙ ap (λ t. B (total (lefts xs)) t) below ∙ sym (total-split xs two)
     ]
 
--- the honest path of a hash comes to the total
+-- the honest path of a hash results in the total
 pub member-total : (hs : List (List ℕ)) (i : ℕ) → i < length hs → member_total (length hs) i (get_or hs i []) (reverse (member hs i)) ≡ total hs
 member-total hs i lt = member_total-within (length hs) hs i (omega arith) lt
 
@@ -210,7 +210,7 @@ member_count-bound len i lt = member_count-within_len len len i (omega arith) lt
 pub two-from_count : (len i n : ℕ) → n + 1 ≡ member_count len i → 1 < len
 two-from_count len i n more = elim (cases_lt 1 len) [ inl two ↦ two | inr one ↦ absurd (omega (arith, member_count-one len i one)) ]
 
--- what a path with one total more, on top, comes to
+-- the result of a path with one total more, on top
 pub path-left : (len i k : ℕ) (h s t below : List ℕ) (path lower : Path) → k ≡ left_count len → i < k → path ≡ lower ++ s ∷ [] → below ≡ member_total k i h (reverse lower) → t ≡ B below s → t ≡ member_total len i h (reverse path)
 path-left len i k h s t below path lower count lo is_path is_below is =
     let lt : i < left_count len = omega arith in

@@ -1,4 +1,4 @@
--- The siblings that are kept of a block stand for all of them: more than 256 are refused, whatever they are.
+-- The siblings that are kept of a block represent all of them: more than 256 are refused, whatever they are.
 use Rattle.std.proofs.Common.{◌≡◌, ℕ, ◌<◌, ◌≤◌, ◌+◌, Bool, true, false, cond, List, [], ◌∷◌, ◌++◌, length, take, nat_lt, not, ◌==◌, ◌||◌, Option, refl, sym, ap, ◌∙◌, arith, suc, zero, length-take-le, length-append, ltb-true, ltb-false}
 use Rattle.std.proofs.lemmas.Bool.Decides.{nat_tests}
 use Rattle.std.proofs.lemmas.List.{take_all, take-append-le}

@@ -32,13 +32,13 @@ joined_apart p id (x ∷ xs) v u zero (suc j) r at at' e = absurd (absent_one x.
 joined_apart p id (x ∷ xs) v u (suc k) zero r at at' e = absurd (absent_one x.number xs v k r.1 at (e ∙ ap (λ (z : PlaceView). z.number) (sym (some-injective x u at'))))
 joined_apart p id (x ∷ xs) v u (suc k) (suc j) r at at' e = joined_apart p id xs v u k j r.2 at at' e
 
--- a place that a seat stands for agrees with the account if the seat's view does
+-- a place that a seat represents agrees with the account if the seat's view does
 place_in : (p : Account) (id : ℕ) (x : View) (v : PlaceView) → ViewFits p id x → IsPlaceIn x v → PlaceFits p id v
 place_in p id (Pins u) v fit is = subst (PlaceFits p id) is fit
 place_in p id (Prunes q) v fit has = joined_one p id q.joined v has.0 fit.joined has.1
 place_in p id Spent v fit none = absurd none
 
--- each place that a seat stands for agrees with the account
+-- each place that a seat represents agrees with the account
 stands : (passes : ℕ) (s : BoardState) (r : IsBoard passes s) (id : ℕ) (v : PlaceView) → StandsAt s id v → PlaceFits r.account id v
 stands passes s r id v at = place_in r.account id at.0 v (r.each id at.0 at.1) at.2
 

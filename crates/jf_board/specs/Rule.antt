@@ -78,7 +78,7 @@ IsPlaceIn (Pins u) v = u ≡ v
 IsPlaceIn (Prunes q) v = Has q.joined v
 IsPlaceIn Spent v = ⊥
 
--- the seat id stands for a place with this view
+-- the seat id represents a place with this view
 abbrev pub StandsAt : BoardState → ℕ → PlaceView → Type 0
 StandsAt s id v = (x : View) × (get_elem? s.views id ≡ some x) × IsPlaceIn x v
 

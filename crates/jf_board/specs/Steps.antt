@@ -1,4 +1,4 @@
--- The steps of a board: what each makes of its seat's view, and what it tells.
+-- The steps of a board: the view of its seat that results from each, and what it tells.
 use Rattle.std.specs.Prelude.{ℕ, [], replicate, slice_set, ◌+◌, ◌∷◌, ◌++◌, leb, cond, ◌-◌, ◌/◌, ◌==◌, drop, ◌≡◌, ◌*◌, ◌<◌, List}
 use Rattle.jf_path.specs.Limits.{max_pins}
 use Rattle.atomic_table.specs.Table.{Me, Step}

@@ -1,4 +1,4 @@
--- What was told of the files of a disk.
+-- What was reported of the files of a disk.
 use Rattle.std.specs.Prelude.{IfOk, if◌then◌else◌}
 use Rattle.std.specs.Option.{ForSome}
 use Rattle.std.proofs.Common.{◌≡◌, ◌∙◌, ap, ap₂, refl, sym, subst, Bool, true, false, ℕ, List, [], Option, Some, None, Result, Ok, Err}
@@ -42,7 +42,7 @@ both_found : (missing : Side → Bool) (h : History) → ((w : Side) → missing
 both_found missing h none =
     ap₂ (λ (p q : List ℕ). let r : Files = record { a = p; b = q } in r) (one_found (missing side.A) h.now.a.bytes (none side.A)) (one_found (missing side.B) h.now.b.bytes (none side.B))
 
--- what both files stand for
+-- what both files represent
 pub store_of_disk : (r : Result StoreCheck Unchecked) (missing : Side → Bool) (told : Option History) (a b text text' : Option (List ℕ)) (h : History) → told ≡ Some h → ((w : Side) → missing w ≡ true → (content_on w h.now).bytes ≡ [])
     → AreFilesOf missing told a b → WritesCheck r a b text text' → IfOk r (IsStoreCheck (reads h))
 store_of_disk (Err e) missing told a b text text' h is none found writes = tt

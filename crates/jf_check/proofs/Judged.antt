@@ -1,4 +1,4 @@
--- What is found of the live records is what both files stand for, or their damage.
+-- What is found of the live records is what both files represent, or their damage.
 use Rattle.std.proofs.Common.{◌≡◌, ◌<◌, List, [], ◌∷◌, length, ap, sym, ◌∙◌, arith, refl, inr, Some, None, true}
 use Rattle.jf_disk.specs.Disk.{Files, History, reads}
 use Rattle.jf_disk.specs.declared.side.Side.{Side}
@@ -42,7 +42,7 @@ module _ (formats : FormatsAreSound) (have : StandingsHaveVersions) (on_side : L
         checkpoint_is = record { standing = s; holds = record { live = x ∷ xs; held = held; leads = (found.2, found.3); sound = sized.sound; read = sized.read }; size = sized.size };
       }
 
--- files without a record stand for a new store
+-- files without a record represent a new store
 pub judged_new : NewIsSound → (files : Files) (c : StoreCheck) → HoldsLive files [] → IsSizedStore None (new_standing format.Two) c → IsStoreCheck files c
 judged_new new files (store_check.Damaged v at) held found = absurd found
 judged_new new files (store_check.Sound side kept n) held found =

@@ -22,7 +22,7 @@ shown_if : (b : Bool) (c : SideCheck) (d : SideCheck) → b ≡ true → cond b 
 shown_if true c d is = refl
 shown_if false c d is = absurd (cc)
 
--- a begun side shows the numbers that its records tell
+-- an initialised side shows the numbers that its records tell
 numbers_of_begun : (size : ℕ) (rs : List Framed) → is_begun rs ≡ true → numbers_shown (shown_by size (Ok rs)) ≡ numbers_in rs
 numbers_of_begun size rs begun = ap numbers_shown (shown_if (is_begun rs) (side_check.Whole size (numbers_in rs) (end_of rs) (size - (end_of rs + 1))) (side_check.Damaged size 0) begun)
 

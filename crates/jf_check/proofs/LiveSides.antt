@@ -44,7 +44,7 @@ pub side_records : (files : Files) (rs : List Framed) (h : HoldsLive files rs) (
 side_records files rs h side.A = h.a_held
 side_records files rs h side.B = h.b_held
 
--- live records are begun
+-- live records are those of an initialised side
 pub live_begun : (files : Files) (rs : List Framed) (h : HoldsLive files rs) → is_begun rs ≡ true
 live_begun files rs h = subst (λ xs. is_begun xs ≡ true) h.live (on_side (live_side h.a_records h.b_records))
   where

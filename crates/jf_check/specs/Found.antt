@@ -14,7 +14,7 @@ use Rattle.jf_check.specs.declared.store_check.StoreCheck.{StoreCheck}
 use Rattle.jf_check.specs.declared.store_check.StoreCheck.TheVariants as store_check
 use Rattle.jf_check.specs.Stores.{checkpoint_file}
 
--- a sound standing with counts is told of: how many nodes its versions keep, and how large its checkpoint would be
+-- a sound standing with counts is reported: how many nodes its versions keep, and how large its checkpoint would be
 pub record IsSized (s : Standing) (kept checkpoint : ℕ) : Type 0 where
   pub sound : IsSound format.Two s
   pub read : IsReadStanding s

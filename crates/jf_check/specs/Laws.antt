@@ -10,7 +10,7 @@ use Rattle.jf_check.specs.declared.check.Check.{Check}
 use Rattle.jf_check.specs.Sides.{side_shown, numbers_shown}
 use Rattle.jf_check.specs.Stores.{live_found, IsCheck}
 
--- the live file of files that stand for versions shows the numbers of these versions, and the files' generation
+-- the live file of files that represent versions shows the numbers of these versions, and the files' generation
 abbrev pub LiveNumbersAreTheVersions : Type 0
 LiveNumbersAreTheVersions =
     (files : Files) (v : Versions) (where_ : Side) → StandsFor files v → live_found files ≡ Some where_

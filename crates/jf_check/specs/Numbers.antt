@@ -12,8 +12,8 @@ checkpoint_numbers x =
     then Some (record { generation = number_of x.payload; base = number_of (drop 8 x.payload); floor = number_of (drop 16 x.payload); head = number_of (drop 24 x.payload) })
     else None
 
--- what a record of a kind makes of the numbers, by the number at its front: of a floor that is the floor, of a landing the
--- head, of several landings how many they are. A head stays at 2^64 - 1
+-- the effect of a record of a kind on the numbers, by the number at its front: for a floor it is the floor, for a landing
+-- the head, for several landings how many they are. A head stays at 2^64 - 1
 abbrev pub numbers_by : ℕ → ℕ → SideNumbers → SideNumbers
 numbers_by kind number n =
     if kind == 2 then record { generation = n.generation; base = n.base; floor = number; head = n.head }
@@ -21,11 +21,11 @@ numbers_by kind number n =
     else if kind == 6 then record { generation = n.generation; base = n.base; floor = n.floor; head = min (n.head + number) (2 ^ 64 - 1) }
     else n
 
--- what a later record makes of the numbers; one of fewer than 8 bytes tells none
+-- the effect of a later record on the numbers; one of fewer than 8 bytes tells none
 abbrev pub numbers_after : SideNumbers → Framed → SideNumbers
 numbers_after n y = if nat_lt (length y.payload) 8 then n else numbers_by y.kind (number_of y.payload) n
 
--- what later records make of the numbers, one after another
+-- the effect of later records on the numbers, one after another
 abbrev pub numbers_through : SideNumbers → List Framed → SideNumbers
 numbers_through n [] = n
 numbers_through n (y ∷ ys) = numbers_through (numbers_after n y) ys

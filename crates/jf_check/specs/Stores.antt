@@ -1,4 +1,4 @@
--- What two files stand for, or their first place of damage, as an opening finds it; and how large a new checkpoint would be.
+-- What two files represent, or their first place of damage, as an opening finds it; and how large a new checkpoint would be.
 use Rattle.std.specs.Prelude.{◌≡◌, ℕ, List, [], ◌∷◌, length, Option, Some, None}
 use Rattle.jf_disk.specs.Disk.{Files}
 use Rattle.jf_disk.specs.Missing.{files_found}
@@ -59,7 +59,7 @@ pub record IsCheckpointSize (files : Files) (n : ℕ) : Type 0 where
   pub size : (g : ℕ) → n ≡ length (checkpoint_file g standing)
 
 -- ---- what an opening would find
--- files stand for versions: which side is live, how many nodes the versions keep, and how large a new checkpoint would be
+-- files represent versions: which side is live, how many nodes the versions keep, and how large a new checkpoint would be
 pub record IsSoundStore (files : Files) (live : Option Side) (kept checkpoint : ℕ) : Type 0 where
   pub versions : Versions
   pub stands : StandsFor files versions
@@ -67,7 +67,7 @@ pub record IsSoundStore (files : Files) (live : Option Side) (kept checkpoint : 
   pub kept_is : kept ≡ kept_nodes versions
   pub checkpoint_is : IsCheckpointSize files checkpoint
 
--- files are damaged first at this place, or stand for versions
+-- files are damaged first at this place, or represent versions
 abbrev pub IsStoreCheck : Files → StoreCheck → Type 0
 IsStoreCheck files (store_check.Damaged where_ at) = IsDamagedAt files where_ at
 IsStoreCheck files (store_check.Sound live kept checkpoint) = IsSoundStore files live kept checkpoint

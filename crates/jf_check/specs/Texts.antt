@@ -32,7 +32,7 @@ shown_words side_check.Absent = codes "absent" ∷ []
 shown_words (side_check.Damaged size at) = codes "size" ∷ decimal size ∷ codes "damaged" ∷ decimal at ∷ []
 shown_words (side_check.Whole size numbers records behind) = codes "size" ∷ decimal size ∷ number_words numbers ++ codes "records" ∷ decimal records ∷ codes "behind" ∷ decimal behind ∷ []
 
--- the words of what both files stand for
+-- the words of what both files represent
 abbrev pub store_words : StoreCheck → List (List ℕ)
 store_words (store_check.Damaged where_ at) = codes "damaged" ∷ live_word (Some where_) ∷ decimal at ∷ []
 store_words (store_check.Sound live kept checkpoint) = codes "live" ∷ live_word live ∷ codes "kept" ∷ decimal kept ∷ codes "checkpoint" ∷ decimal checkpoint ∷ []

@@ -14,7 +14,7 @@ use Rattle.jf_check.specs.declared.check.Check.{Check}
 use Rattle.jf_check.specs.Stores.{IsCheck}
 use Rattle.jf_check.specs.Texts.{check_text}
 
--- the lines of what two files show were appended, and what both stand for was returned; or a front of the lines was
+-- the lines of what two files show were appended, and what both represent was returned; or a front of the lines was
 -- appended; or the disk failed or memory ran out, and the text is unchanged
 abbrev pub WritesCheck : Result StoreCheck Unchecked → Option (List ℕ) → Option (List ℕ) → Option (List ℕ) → Option (List ℕ) → Type 0
 WritesCheck (Ok store) a b text text' = (c : Check) × IsCheck a b c × (store ≡ c.store) × Appends text text' (check_text c)

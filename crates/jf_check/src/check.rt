@@ -24,7 +24,7 @@ use std::thread::Threads;
 // The calls on a disk in memory that a check makes: two to read each side, and six to judge both.
 const CALLS: u64 = 10;
 
-/// What two files show: each by itself, and what both stand for.
+/// What two files show: each by itself, and what both represent.
 #[derive(Clone, Copy, Debug, PartialEq, Eq)]
 pub struct Check {
     pub a: SideCheck,
@@ -33,7 +33,7 @@ pub struct Check {
 }
 
 /// Writes into a sink what the files `a.jf` and `b.jf` of a folder show, by their bytes; `None` is a file that is missing.
-/// A line tells what each file shows by itself, and one what both stand for, or where they are damaged first, as an
+/// A line tells what each file shows by itself, and one what both represent, or where they are damaged first, as an
 /// opening finds it (docs/FORMATS.md, "Checking files"). Returns the latter. The lines are made before any of them is
 /// written. At most `workers` threads work on what the records spell; their number has no effect on the result.
 pub fn check_files<H: Threads + Sync, K: Sink>(
@@ -44,8 +44,8 @@ pub fn check_files<H: Threads + Sync, K: Sink>(
     workers: Workers,
     sink: &mut K,
 ) -> Result<StoreCheck, Unchecked>
-    // After `Ok` the lines of what both files show were appended, and the result is what both stand for; after `WriteFault` a front of
-    // the lines.
+    // After `Ok` the lines of what both files show were appended, and the result is what both represent; after
+    // `WriteFault` a front of the lines.
     ensures written { WritesCheck result (option_map (λ v. v.items) a) (option_map (λ v. v.items) b) (K.text sink.old) (K.text sink.new) }
     // The result is never `DiskFault`.
     ensures unstopped { result ≢ Err Unchecked.DiskFault }
@@ -77,7 +77,7 @@ pub fn check_disk<H: Threads + Sync, D: Disk, K: Sink>(
     // The lines of what the files show were written, as far as the result says: by the bytes that a read gives, if the history is
     // known, and by no bytes of a side that is missing.
     ensures written { ChecksDisk result (D.missing disk.old) (D.history disk.old) (K.text sink.old) (K.text sink.new) }
-    // After `Ok`, if the history is known, the result is what the files that a read gives stand for.
+    // After `Ok`, if the history is known, the result is what the files that a read gives represent.
     ensures store { (h : History) → D.history disk.old ≡ Some h → IfOk result (IsStoreCheck (reads h)) }
     // A known history gains only states that are the same as the last one.
     ensures idle { (h : History) → D.history disk.old ≡ Some h → (g : History) × (D.history disk.new ≡ Some g) × Idles h g }

@@ -5,7 +5,7 @@ use jf_files::{damage_has_one_place, damage_is_no_versions, files_stand_for_one}
 use jf_payload::spelled_is_spelling;
 use jf_standing::{items_lead_to_one, spelled_is_read};
 
-/// The live file of files that stand for versions shows the numbers of these versions, and the files' generation.
+/// The live file of files that represent versions shows the numbers of these versions, and the files' generation.
 pub fn live_numbers_are_the_versions()
     ensures { LiveNumbersAreTheVersions }
 {

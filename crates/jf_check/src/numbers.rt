@@ -63,7 +63,7 @@ fn numbers_after(numbers: SideNumbers, later: FramedRef<'_>) -> SideNumbers
     numbers_by(later.kind, number_in(later.payload), numbers)
 }
 
-// What a record of a kind makes of the numbers, by the number at its front.
+// The effect of a record of a kind on the numbers, by the number at its front.
 fn numbers_by(kind: u8, number: u64, numbers: SideNumbers) -> SideNumbers
     ensures { result ≡ numbers_by kind number numbers }
 {

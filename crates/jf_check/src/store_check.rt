@@ -1,4 +1,4 @@
-// What two files stand for, or where they are damaged first.
+// What two files represent, or where they are damaged first.
 ghost use Rattle.std.specs.Prelude.{◌≡◌, ◌<◌, ℕ, length, true, None, Some, IfOk};
 ghost use Rattle.jf_disk.specs.declared.side.Side.{Side};
 ghost use Rattle.jf_disk.specs.Disk.{reads};
@@ -22,15 +22,15 @@ use jf_standing::{formats_are_sound, new_is_sound};
 use std::alloc::Global;
 use std::thread::Threads;
 
-/// What two files stand for, or where they are damaged first (docs/FORMATS.md, "Damage").
+/// What two files represent, or where they are damaged first (docs/FORMATS.md, "Damage").
 #[derive(Clone, Copy, Debug, PartialEq, Eq)]
 pub enum StoreCheck {
-    /// The files stand for no versions: the first place of damage, in bytes from the file's start.
+    /// The files represent no versions: the first place of damage, in bytes from the file's start.
     Damaged {
         side: Side,
         offset: u64,
     },
-    /// The files stand for versions: the live file, if one has records; the number of nodes that are kept; and the
+    /// The files represent versions: the live file, if one has records; the number of nodes that are kept; and the
     /// number of bytes of the file that a new checkpoint would make.
     Sound {
         live: Option<Side>,
@@ -39,7 +39,7 @@ pub enum StoreCheck {
     },
 }
 
-// What the files of a disk stand for, or where they are damaged first.
+// What the files of a disk represent, or where they are damaged first.
 pub(crate) fn store_found<H: Threads + Sync>(
     rt: &H,
     alloc: Global,
@@ -71,7 +71,7 @@ fn outer_damage(fault: PairFault) -> Result<StoreCheck, Memory>
     }
 }
 
-// What the live records stand for, as a log has read them, or the first one that isn't sound.
+// What the live records represent, as a log has read them, or the first one that isn't sound.
 fn live_store<H: Threads + Sync>(
     rt: &H,
     alloc: Global,
@@ -90,7 +90,7 @@ fn live_store<H: Threads + Sync>(
     }
 }
 
-// What files without a record stand for: a new store.
+// What files without a record represent: a new store.
 fn new_store(alloc: Global) -> Result<StoreCheck, Memory>
     ensures { IfOk result (IsSizedStore None (new_standing format.Two)) }
 {

@@ -72,7 +72,7 @@ fn write_numbers(numbers: &Option<SideNumbers>, out: &mut Bytes) -> Result<(), M
     write_number(b" head ", numbers.head, out)
 }
 
-// Appends the line of what both files stand for.
+// Appends the line of what both files represent.
 fn write_store(check: &StoreCheck, out: &mut Bytes) -> Result<(), Memory>
     ensures { OnOk result (out.new ≡ out.old ++ line_text (store_words check.now)) }
 {

@@ -144,7 +144,7 @@ module _ (back : ChunksAreReadBack) (begins : RepliesBeginChunks) (accepted : Ho
       ap (λ (a : Answer). answer_text c.number a ++ rest) (chunk_to m start c asks)
       ∙ append_assoc (reply_text c.number (reply.Chunk (length (es m start c.count)) (proof m start c.count).depth (length (proof m start c.count).siblings))) (chunk_lines (es m start c.count) (proof m start c.count)) rest
 
-  -- from a place on, lines that go on from there come to all entries
+  -- from a place on, lines that go on from there yield all entries
   taken : (cs : List ChunkLine) (n at start : ℕ) → AskInTurn m start cs → length (lines (chunk_replies cs)) ≤ n → chunks_from n (root m) (take start (entries m)) (record { at = at; left = lines (chunk_replies cs) }) ≡ Ok (entries m)
   unfolding chunks_from
   taken [] zero at start asks enough = ap (λ (all : Entries). Ok all) (take_all start (entries m) asks)
@@ -165,7 +165,7 @@ module _ (back : ChunksAreReadBack) (begins : RepliesBeginChunks) (accepted : Ho
       ∙ block_taken c.number start c.count rest a.number_fits a.within a.least a.most n at
       ∙ taken cs n (at + 1 + length (es m start c.count) + length (proof m start c.count).siblings) (start + c.count) asks.1 (omega arith)
 
-  -- all entries come to the root
+  -- all entries yield the root
   whole : (generation : ℕ) → length (entries m) ≤ 2 ^ 62 → generation < 2 ^ 64 - 2 → restored_entries generation (root m) (entries m) ≡ Ok (entries m)
   whole generation many room =
       let same : bytes_eq (part_root 0 (entries m)) (root m) ≡ true = (bytes_eq-Decides (part_root 0 (entries m)) (root m)).1 (sym (root-part_root m)) in

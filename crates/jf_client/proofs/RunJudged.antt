@@ -106,7 +106,7 @@ module _ (back : BlocksAreReadBack) (begins : RepliesBeginBlocks) (sets : Replie
   abbrev AreAmong : List Heard → Type 0
   AreAmong hs = (m : Map) → IsAskedOf hs m → asked m
 
-  -- from a text of so many lines, and what it is told
+  -- from a text of so many lines, and what is returned for it
   told_more : (h : Heard) (hs : List Heard) (at many : ℕ) (told text : List ℕ) → many ≡ length (lines (text_heard h)) → unwrap_or (told_by (answer_heard h).reply) (syntax_lines at (length (lines (text_heard h)))) ≡ told → text ≡ judged_from (at + many) hs
       → told ++ text ≡ judged_from at (h ∷ hs)
   told_more h hs at many told text many_is told_is later = ap₂ (λ (t u : List ℕ). t ++ u) (sym told_is) (later ∙ ap (λ k. judged_from (at + k) hs) many_is)

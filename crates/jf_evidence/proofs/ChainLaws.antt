@@ -1,4 +1,4 @@
--- Laws on what a chunk comes to, by the entries before its last one and with the highest sibling first.
+-- Laws on the root of a chunk, by the entries before its last one and with the highest sibling first.
 use Rattle.std.specs.Prelude.{◌≡◌, ◌+◌, ◌-◌, List, [], ◌∷◌, ◌++◌, Option, Some, ℕ, reverse, drop, zero, suc, if◌then◌else◌, true, false, cond, length, not}
 use Rattle.std.proofs.Common.{refl, ap, arith, length-append, ◌∙◌, ap₂}
 use Rattle.std.proofs.lemmas.Grind.{reverse_onto}

@@ -168,7 +168,7 @@ passed false false true d w x y z h = absurd (cc)
 passed false false false true w x y z h = absurd (cc)
 passed false false false false w x y z h = (refl, refl, refl)
 
--- an accepted claim has at most 256 siblings and its leaf, and comes to the root
+-- an accepted claim has at most 256 siblings and its leaf, and results in the root
 pub record IsAcceptedClaim (root key : List ℕ) (claim : Option (List ℕ)) (proof : Proof) : Type 0 where
   pub short : length proof.siblings ≤ 256
   pub own_leaf : is_wrong_leaf key claim proof.leaf ≡ false

@@ -19,7 +19,7 @@ use Rattle.jf_evidence.proofs.ChainLaws.{chain_root, chain_inputs, chain_root-lo
 use Rattle.jf_evidence.proofs.CrowdLaws.{is_near, is_near-one, is_near-zero, is_near-none}
 
 -- ---- one step of the map's side
--- a leaf that comes to the root of a part is the part's one entry, or collides
+-- a leaf that results in the root of a part is the part's one entry, or collides
 leaf_front : (k d : ℕ) (x : Entry) (es : Entries) → k ≡ 256 - d → IsKey x.0 → IsPart d es → L x.0 (V x.1) ≡ part_root d es → es ≢ x ∷ []
     → Collides (first_difference (leaf_input x.0 (V x.1) ∷ value_input x.1 ∷ []) (part_inputs k d es))
 unfolding part_inputs
@@ -34,7 +34,7 @@ leaf_front (suc k) d x (e ∷ f ∷ es) fuel key part meet other =
 abbrev front_rest : ℕ → ℕ → List ℕ → Entries → List (List ℕ)
 front_rest n d key es = cond (bit key d) (part_inputs (256 - (d + 1)) (d + 1) (zeros d es) ++ front_inputs n (d + 1) key (ones d es)) (front_inputs n (d + 1) key (zeros d es))
 
--- a pair that comes to the root of a part is the pair of the part's halves, or collides
+-- a pair that results in the root of a part is the pair of the part's halves, or collides
 pair_front : (n d : ℕ) (key : List ℕ) (es : Entries) (l r : List ℕ) (us : List (List ℕ)) → length l ≡ 32 → IsPart d es → N l r ≡ part_root d es
     → (2 ≤ length es → l ≡ part_root (d + 1) (zeros d es) → r ≡ part_root (d + 1) (ones d es) → Collides (first_difference us (front_rest n d key es)))
     → Collides (first_difference (pair_input l r ∷ us) (front_inputs (suc n) d key es))
@@ -59,7 +59,7 @@ before_one d xs x part one =
 less_fuel : (d : ℕ) → d < 256 → 256 - d ≡ suc (256 - (d + 1))
 less_fuel d lt = omega arith
 
--- a chunk that comes to the root of a part has the part's first entries, or collides
+-- a chunk that results in the root of a part has the part's first entries, or collides
 pub front-collides : (n d : ℕ) (xs : Entries) (x : Entry) (ts : List (List ℕ)) (es : Entries) → IsPart d (xs ++ x ∷ []) → IsPart d es → is_near n (256 - d) d x.0 xs ≡ false
     → chain_root n d xs x ts ≡ part_root d es → ((ys : Entries) → es ≡ xs ++ x ∷ ys → ⊥) → Collides (first_difference (chain_inputs n d xs x ts) (front_inputs n d x.0 es))
 unfolding chain_root chain_inputs front_inputs

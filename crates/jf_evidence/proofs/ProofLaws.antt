@@ -1,4 +1,4 @@
--- The honest proof of a key comes to the root of the map and has at most 256 siblings, whatever the key.
+-- The honest proof of a key results in the root of the map and has at most 256 siblings, whatever the key.
 use Rattle.std.specs.Prelude.{◌≡◌, ℕ, ◌-◌, List, [], None, ◌∷◌, Some, suc, ◌+◌, ◌≤◌, length, ◌<◌, ◌++◌, true, false, cond, zero}
 use Rattle.std.proofs.Common.{refl, arith, ap, ◌∙◌, length-append, sym}
 use Rattle.jf_path.specs.Keys.{bit}
@@ -80,7 +80,7 @@ honest_top (suc n) d key (e ∷ f ∷ es) fuel =
     ∙ sides d key (e ∷ f ∷ es) _ (honest_top n (d + 1) key (near key d (e ∷ f ∷ es)) more ∙ ap (λ k. root_below k (d + 1) (near key d (e ∷ f ∷ es))) more)
     ∙ ap (λ k. N (root_below k (d + 1) (zeros d (e ∷ f ∷ es))) (root_below k (d + 1) (ones d (e ∷ f ∷ es)))) (sym more)
 
--- the honest proof comes to the root
+-- the honest proof results in the root
 pub honest-root : (m : Map) (key : List ℕ) → proof_root key (honest m key) ≡ root m
 unfolding honest honest_from root leaves_root
 honest-root m key = climb-climb_to key (start_of (honest m key).leaf) (honest m key).siblings ∙ honest_top 256 0 key (leaves m) refl

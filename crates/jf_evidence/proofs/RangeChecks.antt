@@ -58,7 +58,7 @@ passed false false false true e v w x y z h = absurd (cc)
 passed false false false false true v w x y z h = absurd (cc)
 passed false false false false false v w x y z h = (refl, refl, refl, refl, refl)
 
--- an accepted chunk has a new entry, its keys ascend, its proof has as many siblings as it needs, its last entry is alone, and it comes to the root
+-- an accepted chunk has a new entry, ascending keys, as many siblings as needed, a lone last entry, and results in the root
 pub record IsAcceptedChunk (root : List ℕ) (known fresh : Entries) (proof : RangeProof) : Type 0 where
   pub some : (length fresh == 0) ≡ false
   pub ordered : T (is_sorted key_cmp (drop (length known - 1) known ++ fresh))

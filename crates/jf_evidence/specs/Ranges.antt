@@ -1,4 +1,4 @@
--- Proofs of a chunk: what the entries up to a last key come to, the checks on a chunk, and the honest one.
+-- Proofs of a chunk: the root that the entries up to a last key determine, the checks on a chunk, and the honest one.
 use Rattle.std.specs.Prelude.{ℕ, List, [], ◌∷◌, None, ◌-◌, take, length, zero, suc, ◌+◌, if◌then◌else◌, Bool, not, ◌++◌, drop, ◌||◌, ◌==◌, nat_lt, nat_le, bytes_eq, Option}
 use Rattle.std.specs.FinMap.{is_sorted, entries}
 use Rattle.std.specs.List.{last_or, list_any}
@@ -44,7 +44,7 @@ all_but_last xs = take (length xs - 1) xs
 abbrev pub last_hash : List (List ℕ) → List ℕ
 last_hash xs = unwrap_or (last_or None xs) []
 
--- ---- what a chunk comes to
+-- ---- the result of a chunk
 -- the root of entries that agree in their first d bits, by n bits more of the last one's key: at its end the last entry's leaf; at a 0 bit the right sibling of that bit,
 -- which stands after those of the lower bits; at a 1 bit the entries whose bit is 0 are all there
 unfoldable pub range_root_below : ℕ → ℕ → List ℕ → Entries → List (List ℕ) → List ℕ
@@ -53,7 +53,7 @@ range_root_below (suc n) d key es right =
     if bit key d then N (part_root (d + 1) (zeros d es)) (range_root_below n (d + 1) key (ones d es) right)
     else N (range_root_below n (d + 1) key es (all_but_last right)) (last_hash right)
 
--- the root that entries and a proof come to
+-- the root that entries and a proof determine
 unfoldable pub range_root : Entries → RangeProof → List ℕ
 range_root es proof = range_root_below proof.depth 0 (last_key es) es proof.siblings
 

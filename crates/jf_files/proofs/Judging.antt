@@ -1,4 +1,4 @@
--- Files stand for one list of sound versions, or they are damaged at one first place.
+-- Files represent one list of sound versions, or they are damaged at one first place.
 use Rattle.std.specs.Prelude.{IfSome}
 use Rattle.std.proofs.Common.{◌≡◌, ◌↔◌, ℕ, true, ◌==◌, ◌||◌, inl, inr, sym, ap, ◌∙◌, arith, refl, Option, Some, None, List, [], ◌∷◌, ◌⊎◌, subst, ap₂, Ok}
 use Rattle.std.proofs.lemmas.Bool.{eqb-true}
@@ -94,7 +94,7 @@ module _ (known : SpelledIsRead) where
       law a.0 (item a.0 x) (items a.0 xs) at at' (are_read known a.0 x xs) a.2 (subst (λ fmt. OneFailsAt fmt (item fmt x) (items fmt xs) at') same b.2)
 
 -- ---- live records
--- live records are those of a begun side
+-- live records are those of an initialised side
 live_begun : (files : Files) (rs : List Framed) → HoldsLive files rs → is_begun rs ≡ true
 live_begun files rs h =
     subst (λ xs. is_begun xs ≡ true) h.live (elim (live_side h.a_records h.b_records) as (λ s. is_begun (records_of s h.a_records h.b_records) ≡ true) [ side.A ↦ h.a_begun | side.B ↦ h.b_begun ])

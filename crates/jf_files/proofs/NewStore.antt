@@ -1,4 +1,4 @@
--- The files of a new store stand for a new store.
+-- The files of a new store represent a new store.
 use Rattle.std.specs.Prelude.{map}
 use Rattle.std.proofs.Common.{◌≡◌, refl, ◌∙◌, [], ◌∷◌, ap, List, ℕ, ap₂, subst, arith, sym}
 use Rattle.std.specs.FinMap as fin

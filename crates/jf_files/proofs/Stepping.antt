@@ -77,7 +77,7 @@ stops_by_records = λ step old new v rs rs' before behind stops.
       | inr h ↦ inr (record { live = rs'; held = h; leads = behind })
     ]) stops
 
--- files in step with a pair stand for what its records lead to, and so does what a crash leaves of them
+-- files in step with a pair represent what its records lead to, and so does what a crash leaves of them
 in_step_stands : (new : History) (v : Versions) (p : Pair) (rs : List Framed) → LeadTo rs v → IsInStep p rs new.now → StandsFor (reads new) v × LeavesNow new (λ f. StandsFor f v)
 in_step_stands new v p rs leads k = (record { live = rs; held = in_step_holds p rs new k; leads = leads }, λ f image. record { live = rs; held = in_step_leaves p rs new k f image; leads = leads })
 
@@ -117,7 +117,7 @@ opens_by_records = λ old new v p x xs leads calm left k.
       live = λ rs held. (x ∷ xs, holds, subst (λ ys. LiveAfter Opens ys (x ∷ xs)) (holds_one (reads new) (x ∷ xs) rs holds (subst (λ files. HoldsLive files rs) (sym left.same) held)) refl);
     }
 
--- files without a record, or with the first checkpoint of a new store, stand for a new store
+-- files without a record, or with the first checkpoint of a new store, represent a new store
 either_new : (x : Framed) → LeadTo (x ∷ []) new_store → (f : Files) → HoldsLive f [] ⊎ HoldsLive f (x ∷ []) → StandsFor f new_store
 either_new x leads f (inl h) = record { live = []; held = h; leads = refl }
 either_new x leads f (inr h) = record { live = x ∷ []; held = h; leads = leads }

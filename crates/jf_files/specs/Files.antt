@@ -1,4 +1,4 @@
--- The versions that two files stand for, or their first place of damage (docs/FORMATS.md, "Two files of records").
+-- The versions that two files represent, or their first place of damage (docs/FORMATS.md, "Two files of records").
 use Rattle.std.specs.Prelude.{◌≡◌, ◌⊎◌, ℕ, List, [], ◌∷◌, map, Some, Result, Ok, Err}
 use Rattle.jf_disk.specs.Disk.{Files}
 use Rattle.jf_disk.specs.declared.side.Side.{Side}
@@ -36,7 +36,7 @@ abbrev pub IsUnsoundAt : List Framed → ℕ → Type 0
 IsUnsoundAt [] at = ⊥
 IsUnsoundAt (x ∷ xs) at = (fmt : Format) × (x.kind ≡ checkpoint_kind fmt) × OneFailsAt fmt (item fmt x) (items fmt xs) at
 
--- files stand for versions: they hold live records, and these lead to the versions
+-- files represent versions: they hold live records, and these lead to the versions
 pub record StandsFor (files : Files) (v : Versions) : Type 0 where
   pub live : List Framed
   pub held : HoldsLive files live

@@ -1,4 +1,4 @@
--- Laws of what files stand for.
+-- Laws of what files represent.
 use Rattle.std.specs.Prelude.{◌≡◌, ◌↔◌, ℕ, true, List, [], ◌∷◌, Ok, ◌⊎◌, ◌++◌}
 use Rattle.jf_model.specs.Versions.{new_store, Versions, IsVersions}
 use Rattle.jf_disk.specs.Disk.{Files, History, reads}
@@ -35,23 +35,23 @@ CheckpointsAreNumbered =
 abbrev pub GenerationIsLive : Type 0
 GenerationIsLive = (files : Files) (rs : List Framed) → HoldsLive files rs → generation files ≡ generation_in rs
 
--- files without records stand for a new store
+-- files without records represent a new store
 abbrev pub NoRecordsAreNew : Type 0
 NoRecordsAreNew = (files : Files) → records files.a ≡ Ok [] → records files.b ≡ Ok [] → StandsFor files new_store
 
--- the 101 bytes that the checkpoint of a new store in format 2 makes of side A stand for a new store of generation 1
+-- the 101 bytes of side A made by the checkpoint of a new store in format 2 represent a new store of generation 1
 abbrev pub NewStoreStands : Type 0
 NewStoreStands = StandsFor new_store_files new_store × (generation new_store_files ≡ 1) × (1 ∷ frame 5 (record_bytes format.Two (checkpoint_of 1 (new_standing format.Two))) ≡ new_store_bytes)
 
--- files stand for at most one list of versions
+-- files represent at most one list of versions
 abbrev pub FilesStandForOne : Type 0
 FilesStandForOne = (files : Files) (v w : Versions) → StandsFor files v → StandsFor files w → v ≡ w
 
--- the versions that files stand for are sound
+-- the versions that files represent are sound
 abbrev pub FilesStandForSound : Type 0
 FilesStandForSound = (files : Files) (v : Versions) → StandsFor files v → IsVersions v
 
--- damaged files stand for no versions
+-- damaged files represent no versions
 abbrev pub DamageIsNoVersions : Type 0
 DamageIsNoVersions = (files : Files) (v : Versions) (where_ : Side) (at : ℕ) → StandsFor files v → IsDamagedAt files where_ at → ⊥
 
@@ -60,20 +60,20 @@ abbrev pub DamageHasOnePlace : Type 0
 DamageHasOnePlace =
     (files : Files) (where_ where_' : Side) (at at' : ℕ) → IsDamagedAt files where_ at → IsDamagedAt files where_' at' → (where_ ≡ where_') × (at ≡ at')
 
--- files stand for versions, or are damaged
+-- files represent versions, or are damaged
 abbrev pub FilesAreJudged : Type 0
 FilesAreJudged = (files : Files) → ((v : Versions) × StandsFor files v) ⊎ ((where_ : Side) × (at : ℕ) × IsDamagedAt files where_ at)
 
--- a disk whose files stand for versions is calm if whatever a crash leaves stands for the same versions
+-- a disk whose files represent versions is calm if whatever a crash leaves represents the same versions
 abbrev pub CalmBoth : Type 0
 CalmBoth = (h : History) (v : Versions) → StandsFor (reads h) v → LeavesNow h (λ f. StandsFor f v) → IsCalm h
 
 -- ---- files that hold a standing
--- files that hold a standing stand for its versions
+-- files that hold a standing represent its versions
 abbrev pub HeldIsStoodFor : Type 0
 HeldIsStoodFor = (files : Files) (fmt : Format) (s : Standing) → HoldsStanding files fmt s → StandsFor files (versions_of s)
 
--- files that hold a record and stand for versions hold a standing
+-- files that hold a record and represent versions hold a standing
 abbrev pub StoodForIsHeld : Type 0
 StoodForIsHeld =
     (files : Files) (v : Versions) (x : Framed) (xs : List Framed) → StandsFor files v → HoldsLive files (x ∷ xs) → (fmt : Format) × (s : Standing) × HoldsStanding files fmt s × (v ≡ versions_of s)
@@ -82,7 +82,7 @@ StoodForIsHeld =
 abbrev pub HeldIsSound : Type 0
 HeldIsSound = (files : Files) (fmt : Format) (s : Standing) → HoldsStanding files fmt s → IsSound fmt s × IsVersions (versions_of s)
 
--- one more record leads to what it makes of the standing before it
+-- one more record leads to its result for the standing before it
 abbrev pub OneMoreFollows : Type 0
 OneMoreFollows = (rs : List Framed) (fmt : Format) (s s' : Standing) (y : Framed) (r : Record) → LeadToStanding rs fmt s → IsSpelling fmt r y.kind y.payload → TakesRecord fmt s r s' → LeadToStanding (rs ++ y ∷ []) fmt s'
 

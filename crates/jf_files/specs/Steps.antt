@@ -1,4 +1,4 @@
--- What a step of a store makes of its versions and of its files' records, and what a crash in it may leave.
+-- The effect of a step of a store on its versions and on its files' records, and what a crash in it may leave.
 use Rattle.std.specs.Prelude.{ℕ, List, ◌+◌, ◌≡◌, [], ◌∷◌, ◌++◌, ◌⊎◌}
 use Rattle.jf_hash.specs.Maps.{Batch, map_of_entries}
 use Rattle.jf_model.specs.Versions.{Versions, land_all, versions_from_floor, imported_versions}
@@ -67,7 +67,7 @@ pub record Succeeds (step : StoreStep) (old new : History) (v : Versions) : Type
   pub generation_of : generation (reads new) ≡ generation_after_step step (generation (reads old))
   pub live : (rs : List Framed) → HoldsLive (reads old) rs → (rs' : List Framed) × HoldsLive (reads new) rs' × LiveAfter step rs rs'
 
--- whatever a crash leaves stands for what the files stand for, and for nothing else
+-- whatever a crash leaves represents what the files represent, and nothing else
 pub record IsCalm (h : History) : Type 0 where
   pub leaves : (v : Versions) → StandsFor (reads h) v → LeavesNow h (λ f. StandsFor f v)
   pub only : (f : Files) → IsImage h.now f → (v : Versions) → StandsFor f v → StandsFor (reads h) v

@@ -1,4 +1,4 @@
-// Laws of what files stand for. These functions do nothing when they run.
+// Laws of what files represent. These functions do nothing when they run.
 ghost use Rattle.jf_files.specs.Laws.{CheckpointsHaveFormats, CheckpointsAreNumbered, GenerationIsLive, NoRecordsAreNew, NewStoreStands, FilesStandForOne, FilesStandForSound, DamageIsNoVersions, DamageHasOnePlace, FilesAreJudged, CalmBoth, HeldIsStoodFor, StoodForIsHeld, HeldIsSound, OneMoreFollows, CheckpointAlone, StandingsHaveVersions};
 
 use jf_payload::spelled_is_spelling;
@@ -22,12 +22,12 @@ pub fn generation_is_live()
     ensures { GenerationIsLive }
 {}
 
-/// Files without records stand for a new store.
+/// Files without records represent a new store.
 pub fn no_records_are_new()
     ensures { NoRecordsAreNew }
 {}
 
-/// The checkpoint of a new store makes 101 bytes of side A, and these files stand for a new store of generation 1.
+/// The checkpoint of a new store writes 101 bytes to side A, and these files represent a new store of generation 1.
 pub fn new_store_stands()
     ensures { NewStoreStands }
 {
@@ -36,7 +36,7 @@ pub fn new_store_stands()
     new_is_sound();
 }
 
-/// Files stand for at most one list of versions.
+/// Files represent at most one list of versions.
 pub fn files_stand_for_one()
     ensures { FilesStandForOne }
 {
@@ -44,7 +44,7 @@ pub fn files_stand_for_one()
     spelled_is_read();
 }
 
-/// The versions that files stand for are sound.
+/// The versions that files represent are sound.
 pub fn files_stand_for_sound()
     ensures { FilesStandForSound }
 {
@@ -52,7 +52,7 @@ pub fn files_stand_for_sound()
     spelled_is_read();
 }
 
-/// Damaged files stand for no versions.
+/// Damaged files represent no versions.
 pub fn damage_is_no_versions()
     ensures { DamageIsNoVersions }
 {
@@ -68,7 +68,7 @@ pub fn damage_has_one_place()
     spelled_is_read();
 }
 
-/// Files stand for versions, or are damaged.
+/// Files represent versions, or are damaged.
 pub fn files_are_judged()
     ensures { FilesAreJudged }
 {
@@ -76,7 +76,7 @@ pub fn files_are_judged()
     spelled_is_read();
 }
 
-/// A disk whose files stand for versions is calm if whatever a crash leaves stands for the same versions.
+/// A disk whose files represent versions is calm if whatever a crash leaves represents the same versions.
 pub fn calm_both()
     ensures { CalmBoth }
 {
@@ -84,12 +84,12 @@ pub fn calm_both()
     spelled_is_read();
 }
 
-/// Files that hold a standing stand for its versions.
+/// Files that hold a standing represent its versions.
 pub fn held_is_stood_for()
     ensures { HeldIsStoodFor }
 {}
 
-/// Files that hold a record and stand for versions hold a standing.
+/// Files that hold a record and represent versions hold a standing.
 pub fn stood_for_is_held()
     ensures { StoodForIsHeld }
 {}
@@ -102,7 +102,7 @@ pub fn held_is_sound()
     spelled_is_read();
 }
 
-/// One more record leads to what it makes of the standing before it.
+/// One more record leads to its result for the standing before it.
 pub fn one_more_follows()
     ensures { OneMoreFollows }
 {

@@ -1,4 +1,4 @@
-//! The versions that two files of records stand for, or their first place of damage; and what a crash in a step of a
+//! The versions that two files of records represent, or their first place of damage; and what a crash in a step of a
 //! store may leave. Definitions with their laws.
 #![tactic(auto)]
 

@@ -26,7 +26,7 @@ pub record SideTally : Type 0 where
   pub whole_due : Bool
   pub lost : Bool
 
--- ---- what one call on a side makes of its file's counts
+-- ---- the effect of one call on a side on its file's counts
 -- its length was asked for once
 abbrev pub AsksLength : FileCalls → FileCalls → Type 0
 AsksLength c c' = c' ≡ record c { lengths = count_after_call c.lengths }

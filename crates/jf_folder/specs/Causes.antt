@@ -1,11 +1,11 @@
--- What an error of the system comes to, and the words for it.
+-- The cause that an error of the system results in, and the words for it.
 use Rattle.std.specs.Prelude.{ℕ, List, Option, Some, None, codes}
 use Rattle.std.specs.declared.io.ErrorKind.{ErrorKind}
 use Rattle.std.specs.declared.io.ErrorKind.TheVariants as kind
 use Rattle.jf_folder.specs.declared.cause.FaultCause.{FaultCause}
 use Rattle.jf_folder.specs.declared.cause.FaultCause.TheVariants as cause
 
--- the cause that an error of a kind comes to
+-- the cause that an error of a kind results in
 abbrev pub kind_cause : ErrorKind → FaultCause
 kind_cause kind.WouldBlock = cause.InUse
 kind_cause kind.NotFound = cause.NoSuchFolder

@@ -39,7 +39,7 @@ impl FaultCause {
         }
     }
 
-    /// The cause that an error of the system comes to.
+    /// The cause that an error of the system results in.
     pub fn of_kind(kind: ErrorKind) -> FaultCause
         // The result is the cause that belongs to the kind.
         ensures { result ≡ kind_cause kind }

@@ -87,7 +87,7 @@ module _ (old new : Engine) (es : List Entry) (input : List ℕ) (rest' text tex
       ∙ all_past (landing_blocks f.ls).whole (landing_blocks f.ls).bad old.versions f.follows.accepted
       ∙ ap (option_map (λ at. refused.Line at)) f.good
 
-  -- what the lines up to the bad one come to, the input comes to
+  -- the result of the lines up to the bad one is the result of the input
   bad_input : (at : ℕ) (ls : List (List ℕ)) → (landing_blocks ls).bad ≡ Some at → ReadsToBadLine at ls (Some input) rest' → landing_blocks (lines input) ≡ landing_blocks ls
   bad_input at ls bad (inl soon) =
       let behind = (soon.1 input refl).2.read in

@@ -1,4 +1,4 @@
--- Lines that were taken as landing blocks, and what they made of a store.
+-- Lines that were taken as landing blocks, and their effect on a store.
 use Rattle.std.proofs.Common.{◌≡◌, inl, inr, ℕ, ◌+◌, List, [], ◌∷◌, ◌++◌, length, map, arith, Option, Some, None, refl, ap, sym, ◌∙◌, subst, append_assoc, append-nil}
 use Rattle.jf_input.specs.Feeds.{Took}
 use Rattle.jf_model.specs.Versions.{versions_after_landing}
@@ -45,7 +45,7 @@ block_lands old mid new b bs es one f = record {
 }
 
 -- ---- lines
--- what lines made of a state: these landings more, by these blocks
+-- the effect of lines on a state: these landings more, by these blocks
 pub record Made (s next : FollowState) (bs : List LandingBlock) : Type 0 where
   pub more : List Entry
   pub entries : next.entries ≡ s.entries ++ more
@@ -102,7 +102,7 @@ took_number (line ∷ ls) s next text good took =
     let later = took_number ls mid next took.2 took.3.1.1 took.4 in
     omega (arith, one, later)
 
--- of a block that is begun there is a line for each change
+-- of a block that has started there is a line for each change
 pub took_next : (ls : List (List ℕ)) (s next : FollowState) (text : List ℕ) → IsNextLine s.reading.at s.reading.stage → Took TakesLandingLine s ls next text → IsNextLine next.reading.at next.reading.stage
 took_next [] s next text h took = subst (λ (r : LandingReading). IsNextLine r.at r.stage) (ap (λ (x : FollowState). x.reading) (sym took.0)) h
 took_next (line ∷ ls) s next text h took =

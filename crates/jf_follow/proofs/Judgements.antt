@@ -138,7 +138,7 @@ module _ (v : Versions) (b : LandingBlock) where
       ∙ skip (nat_le b.version v.head && bytes_eq (root_of v b.version) b.root) _ row_three (ap₂ (λ s t. s && t) (there high) (other_root (root_of v b.version) b.root differ))
       ∙ pick (nat_le b.version v.head) _ row_four (there high)
 
-  -- a version above the head comes to the rows after the third
+  -- a version above the head reaches the rows after the third
   above : v.base ≤ v.head → v.head < b.version → judgement v b ≡ first_row row_four
   unfolding judgement
   above low lt =
@@ -150,7 +150,7 @@ module _ (v : Versions) (b : LandingBlock) where
   pub row_gap : v.base ≤ v.head → v.head + 1 < b.version → judgement v b ≡ judged.Refused (fault.Gap v.head)
   row_gap low lt = above low (omega arith) ∙ pick (nat_lt (v.head + 1) b.version) _ row_five (grind (arith, nat_tests))
 
-  -- the next version comes to the last two rows
+  -- the next version reaches the last two rows
   next : v.base ≤ v.head → b.version ≡ v.head + 1 → judgement v b ≡ first_row row_five
   next low is = above low (omega arith) ∙ skip (nat_lt (v.head + 1) b.version) _ row_five (grind (arith, nat_tests))
 
@@ -158,7 +158,7 @@ module _ (v : Versions) (b : LandingBlock) where
   pub row_last : v.base ≤ v.head → b.version ≡ v.head + 1 → is_at_limit v ≡ true → judgement v b ≡ judged.Refused fault.Last
   row_last low is last = next low is ∙ pick (is_at_limit v) _ row_six last
 
-  -- the batch comes to another root
+  -- the batch results in another root
   pub row_differs : v.base ≤ v.head → b.version ≡ v.head + 1 → is_at_limit v ≡ false → ((landed_block v b.batch).root ≡ b.root → ⊥) → judgement v b ≡ judged.Refused (fault.Differs b.version b.root (landed_block v b.batch).root)
   row_differs low is more differ =
       next low is ∙ skip (is_at_limit v) _ row_six more ∙ pick (not (bytes_eq (landed_block v b.batch).root b.root)) _ [] (ap not (other_root (landed_block v b.batch).root b.root differ))

@@ -23,7 +23,7 @@ module _ (r : LandingReading) (line whole : List ℕ) (given : line ≡ given_of
   same_block : ended_block r line ≡ ended_block r whole
   same_block = ap (ended_block r) given ∙ given_alike (ended_block r) (λ l o h k. (after-long r l o h k).1) whole
 
--- what is made of what is given of a line is made of the line
+-- the result for what is given of a line is the result for the line
 pub takes_whole : (s next : FollowState) (line whole : List ℕ) (r : Result (List ℕ) FollowStop) → line ≡ given_of whole → TakesLandingLine s line next r → TakesLandingLine s whole next r
 takes_whole s next line whole (Ok text) given t =
     (t.0, (t.1.0 ∙ same_reading s.reading line whole given, t.1.1), subst (λ o. KeepsEndedBlock o s next) (same_block s.reading line whole given) t.2)

@@ -14,7 +14,7 @@ use Rattle.jf_lead.specs.declared.fault.LandingFault.TheVariants as landing_faul
 use Rattle.jf_lead.specs.Reading.{landing_line_of, change_after}
 use Rattle.jf_lead.specs.Steps.{LandingReading, step_to, whole_block, begun_block, with_change, landing_head_step, change_step, landing_line_step, number_after, reading_after, ended_block, stage_refusal, refusal_at_end}
 
--- line at is the next one: of a block that is begun its first line and a line for each change have come
+-- line at is the next one: of a block that has started its first line and a line for each change have come
 abbrev pub IsNextLine : ℕ → Stage → Type 0
 IsNextLine at stage.Between = Unit {0}
 IsNextLine at (stage.Block b) = b.first + 1 + length b.batch ≡ at

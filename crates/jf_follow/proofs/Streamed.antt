@@ -1,4 +1,4 @@
--- What a source comes to whose lines were taken as landing blocks.
+-- The result of a source whose lines were taken as landing blocks.
 use Rattle.std.proofs.Common.{◌≡◌, ◌⊎◌, false, inl, inr, ℕ, List, [], ◌∷◌, ◌++◌, length, Option, Some, None, Err, refl, ap, sym, ◌∙◌, subst, append-nil, arith}
 use Rattle.std.specs.Prelude.{slice_get}
 use Rattle.std.proofs.lemmas.List.{length-append}
@@ -38,7 +38,7 @@ started e = follow_state begun_reading e []
 whole_after : (ls : List (List ℕ)) → whole_blocks ls ≡ unnumbered (ended_blocks begun_reading ls)
 whole_after ls = ap (λ (x : LandingBlocks). unnumbered x.whole) (landing_blocks-lines ls)
 
--- what lines made of a store
+-- the effect of lines on a store
 pub lines_followed : (ls : List (List ℕ)) (old : Engine) (next : FollowState) (text : List ℕ) → Took TakesLandingLine (started old) ls next text → FollowsLines old next.store next.entries ls
 lines_followed ls old next text took =
     let m = made ls (started old) next text took in
@@ -228,7 +228,7 @@ module _ (old : Engine) (source source' text text' : Option (List ℕ)) where
       ]
     ]
 
-    -- it came to the end of the input
+    -- it reached the end of the input
     pub fed_done : (how : Followed) → FedBy feeding.Done → EndsFollowing how (shown last).reading (shown last).store.versions text text' → Came how (shown last)
     fed_done how f end = elim f.ended [
       | inl b ↦ absurd b.2

@@ -1,4 +1,4 @@
--- What a store makes of one landing that is told.
+-- The effect of one announced landing on a store.
 use Rattle.std.proofs.Common.{◌≡◌, inl, inr, ℕ, ◌+◌, ◌<◌, ◌≤◌, ◌^◌, ◌-◌, List, [], ◌∷◌, Some, Result, Ok, Err, true, false, true≢false, refl, ap, sym, ◌∙◌, subst, arith}
 use Rattle.std.specs.Prelude.{◌↔◌}
 use Rattle.jf_model.specs.Versions.{Versions}

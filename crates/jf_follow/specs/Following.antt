@@ -1,4 +1,4 @@
--- What a follower makes of the landings that it is told of: the table, and blocks one after another.
+-- The effect of announced landings on a follower: the table, and blocks one after another.
 use Rattle.std.specs.Prelude.{ℕ, ◌+◌, ◌-◌, ◌^◌, Bool, not, ◌&&◌, ◌||◌, nat_le, nat_lt, bytes_eq, List, [], ◌∷◌, map, Option, Some, None, unwrap_or}
 use Rattle.std.specs.FinMap.{len}
 use Rattle.jf_path.specs.Checks.{first_of}
@@ -17,7 +17,7 @@ use Rattle.jf_follow.specs.declared.judging.Judgement.{Judgement}
 use Rattle.jf_follow.specs.declared.judging.Judgement.TheVariants as judged
 
 -- ---- one landing
--- a landing that is told: its version, the root of its map, and its batch
+-- an announced landing: its version, the root of its map, and its batch
 abbrev pub announced_landing : ℕ → List ℕ → Batch → LandingBlock
 announced_landing version root batch = record { version = version; root = root; batch = batch }
 
@@ -25,7 +25,7 @@ announced_landing version root batch = record { version = version; root = root; 
 abbrev pub is_at_limit : Versions → Bool
 is_at_limit v = nat_le (2 ^ 64 - 2) v.head || nat_lt (2 ^ 62) (len (newest v))
 
--- how versions judge a landing that is told: by the first row whose test holds; if none does, it is the next version
+-- how versions judge an announced landing: by the first row whose test holds; if none does, it is the next version
 unfoldable pub judgement : Versions → LandingBlock → Judgement
 judgement v b =
     unwrap_or (first_of ((nat_lt b.version v.base, judged.Refused (fault.Below v.base))

@@ -103,7 +103,7 @@ IsDecidedBy followed.ReadFault refusal = Unit {0}
 IsDecidedBy followed.DiskFault refusal = Unit {0}
 IsDecidedBy followed.Memory refusal = Unit {0}
 
--- how an input was followed is decided by the input, if its bytes are told: a refusal is its first one, and no other end but one of
--- a device or of memory comes in place of it
+-- how an input was followed is decided by the input, if its bytes are known: a refusal is its first one, and no other end
+-- but one of a device or of memory comes in place of it
 abbrev pub InputsDecide : Type 0
 InputsDecide = (how : Followed) (old new : Engine) (es : List Entry) (input : List ℕ) (rest' text text' : Option (List ℕ)) → HasFollowed how old new es (Some input) rest' text text' → IsDecidedBy how (refusal_of_lines old.versions (lines input))

@@ -39,7 +39,7 @@ abbrev pub KeepsBlock : LandingBlock → Engine → Engine → List Entry → Li
 KeepsBlock b old new es es' =
     ((judgement old.versions b ≡ judged.Known) × (new ≡ old) × (es' ≡ es)) ⊎ (LandsOn b old new × (es' ≡ es ++ dated_entry b new.moment ∷ []))
 
--- what a block, beside the number of its first line, made of a store and entries: it is in the store, or refused; or the disk
+-- the effect of a block, beside its first line's number, on a store and entries: it is in the store, or refused; or the disk
 -- failed, or memory ran out
 abbrev pub DoesBlock : ℕ × LandingBlock → Engine → Engine → List Entry → List Entry → Result (Unit {0}) FollowStop → Type 0
 DoesBlock b old new es es' (Ok u) = KeepsBlock b.1 old new es es'
@@ -58,7 +58,7 @@ KeepsEndedBlock (Some b) s next = KeepsBlock b.1 s.store next.store s.entries ne
 abbrev pub ReadsLine : FollowState → List ℕ → FollowState → Type 0
 ReadsLine s line next = (next.reading ≡ reading_after s.reading line) × (stage_refusal next.reading.stage ≡ None)
 
--- what a line makes of a state: after the last line of a block, the block is in the store
+-- the effect of a line on a state: after the last line of a block, the block is in the store
 abbrev pub TakesLandingLine : FollowState → List ℕ → FollowState → Result (List ℕ) FollowStop → Type 0
 TakesLandingLine s line next (Ok text) = (text ≡ []) × ReadsLine s line next × KeepsEndedBlock (ended_block s.reading line) s next
 TakesLandingLine s line next (Err (stop.Refused (refused.Line at))) =

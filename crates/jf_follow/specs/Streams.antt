@@ -1,4 +1,4 @@
--- What a follower makes of the landing blocks of an input, by how it ended.
+-- The effect of the landing blocks of an input on a follower, by how it ended.
 use Rattle.std.specs.Prelude.{◌≡◌, ◌⊎◌, ℕ, ◌+◌, List, [], ◌∷◌, ◌++◌, length, map, slice_get, Option, Some, None, codes, decimal}
 use Rattle.hex.specs.Hex.{encode_lower}
 use Rattle.jf_text.specs.Words.{line_text}
@@ -21,7 +21,7 @@ use Rattle.jf_follow.specs.declared.followed.FollowRefused.TheVariants as refuse
 use Rattle.jf_follow.specs.declared.followed.Followed.{Followed}
 use Rattle.jf_follow.specs.declared.followed.Followed.TheVariants as followed
 
--- the line that tells where a follower has come to: the head and its root
+-- the line that reports what a follower has reached: the head and its root
 abbrev pub followed_text : Versions → List ℕ
 followed_text v = line_text (codes "followed" ∷ decimal v.head ∷ encode_lower (root_of v v.head) ∷ [])
 
@@ -43,7 +43,7 @@ pub record FollowsBlocks (old new : Engine) (bs : List LandingBlock) (es : List 
 abbrev pub FollowsLines : Engine → Engine → List Entry → List (List ℕ) → Type 0
 FollowsLines old new es ls = FollowsBlocks old new (whole_blocks ls) es
 
--- none of these lines is bad. Of a block that is begun in them, further lines may still come
+-- none of these lines is bad. Of a block that has started in them, further lines may still come
 abbrev pub HasNoBadLine : List (List ℕ) → Type 0
 HasNoBadLine ls = decided_refusal (length ls) (landing_blocks ls).bad ≡ None
 
@@ -95,8 +95,8 @@ pub record EndsInLanding (old new : Engine) (es : List Entry) (rest rest' : Opti
   pub follows : FollowsBlocks old mid before es
   pub breaks : BreaksAt block mid new
 
--- what a follower made of an input, by how it ended. If the source failed, each block whose last line was taken is followed: so
--- it was before the source was asked for more, which may always fail
+-- the effect of an input on a follower, by how it ended. If the source failed, each block whose last line was taken is
+-- followed: so it was before the source was asked for more, which may always fail
 abbrev pub HasFollowed : Followed → Engine → Engine → List Entry → Option (List ℕ) → Option (List ℕ) → Option (List ℕ) → Option (List ℕ) → Type 0
 HasFollowed followed.Done old new es rest rest' text text' = FollowsInput old new es rest rest' × Appends text text' (followed_text new.versions)
 HasFollowed followed.WriteFault old new es rest rest' text text' = FollowsInput old new es rest rest' × IsCutShort text text' (followed_text new.versions)
@@ -107,7 +107,7 @@ HasFollowed (followed.Refused (refused.Line at)) old new es rest rest' text text
 HasFollowed (followed.Refused (refused.Block at why)) old new es rest rest' text text' = EndsAtRefusedBlock old new es rest rest' at why × (text' ≡ text)
 
 -- ---- the end of the input
--- what the end of the lines made of a text, by how it ended
+-- the effect of the end of the lines on a text, by how it ended
 abbrev pub EndsFollowing : Followed → LandingReading → Versions → Option (List ℕ) → Option (List ℕ) → Type 0
 EndsFollowing followed.Done r v text text' = (refusal_at_end r.at r.stage ≡ None) × Appends text text' (followed_text v)
 EndsFollowing followed.WriteFault r v text text' = (refusal_at_end r.at r.stage ≡ None) × IsCutShort text text' (followed_text v)

@@ -1,4 +1,4 @@
--- What a store makes of one landing that is told, by the result.
+-- The effect of one announced landing on a store, by the result.
 use Rattle.std.specs.Prelude.{◌≡◌, ◌⊎◌, ◌+◌, [], ◌∷◌, Result, Ok, Err, true, false}
 use Rattle.jf_model.specs.Versions.{Versions}
 use Rattle.jf_files.specs.Steps.{Lands}
@@ -22,7 +22,7 @@ LandsOn b old new = (judgement old.versions b ≡ judged.Next) × HasStepped (La
 abbrev pub BreaksAt : LandingBlock → Engine → Engine → Type 0
 BreaksAt b old new = (judgement old.versions b ≡ judged.Next) × HasStopped (Lands (b.batch ∷ [])) old new
 
--- a landing is told: its version, the root of its map, and the moment of the disk after it
+-- a landing is reported: its version, the root of its map, and the moment of the disk after it
 abbrev pub TellsOf : LandingBlock → Engine → Landed → Type 0
 TellsOf b new l = (l.version ≡ b.version) × (l.root ≡ b.root) × (l.moment ≡ new.moment)
 
@@ -30,8 +30,8 @@ TellsOf b new l = (l.version ≡ b.version) × (l.root ≡ b.root) × (l.moment 
 abbrev pub IsUnchanged : Engine → Engine → Type 0
 IsUnchanged old new = (old.broken ≡ false) × (new ≡ old)
 
--- what a landing that is told made of a store: it was there already, or it landed; or the store was broken; or the disk failed in
--- the landing; or memory ran out, which comes for the next version alone; or the table refuses it
+-- the effect of an announced landing on a store: it was there already, or it landed; or the store was broken; or the disk
+-- failed in the landing; or memory ran out, which comes for the next version alone; or the table refuses it
 abbrev pub TakesBlock : LandingBlock → Engine → Engine → Result Taken FollowFault → Type 0
 TakesBlock b old new (Ok taken.Already) = (judgement old.versions b ≡ judged.Known) × IsUnchanged old new
 TakesBlock b old new (Ok (taken.Landed l)) = LandsOn b old new × TellsOf b new l

@@ -1,7 +1,7 @@
 // Why a landing isn't followed.
 use jf_hash::Hash;
 
-/// Why a follower refuses a landing that it is told of.
+/// Why a follower refuses an announced landing.
 #[derive(Clone, Copy, Debug, PartialEq, Eq)]
 pub enum FollowFault {
     /// An earlier call on the follower's store met a fault of the disk.

@@ -63,16 +63,16 @@ impl<D: Disk> Follower<D> {
     /// neither their number nor the gate has an effect on the result.
     ///
     /// Refusals, the first that holds. After each but `DiskFault` the store is equal to what it was, its disk too; so if the
-    /// store was whole, every image of the disk still stands for the versions from before:
+    /// store was whole, every image of the disk still represents the versions from before:
     ///
     /// - `Broken`: an earlier call on the store met a fault of the disk.
     /// - `Below`: the version is below the first whose root is recorded.
     /// - `Differs`: another root is recorded for the version.
     /// - `Gap`: the version is above the next one.
     /// - `Last`: the head is version 2^64 - 2, or its map has more than 2^62 entries.
-    /// - `Differs`: the batch comes to another root.
+    /// - `Differs`: the batch results in another root.
     /// - `DiskFault`: a call on the disk failed. The store is broken and shows the versions from before. After a crash the
-    ///   files stand for these, or for these and the new one.
+    ///   files represent these, or these and the new one.
     /// - `Memory`: memory ran out. It comes for the next version alone.
     #[tactic(auto, using(crate::proofs::Takings::refused_so, crate::proofs::Takings::broken_by))]
     pub fn take<H: Threads + Sync, G: Gate>(

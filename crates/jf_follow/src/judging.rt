@@ -1,4 +1,4 @@
-// How a store judges a landing that it is told of, by what it has recorded.
+// How a store judges an announced landing, by what it has recorded.
 ghost use Rattle.std.specs.Prelude.{◌≡◌, ◌≢◌, ◌+◌, ◌≤◌};
 ghost use Rattle.jf_follow.specs.Following.{judgement, announced_landing};
 
@@ -8,7 +8,7 @@ use jf_engine::Engine;
 use jf_hash::Hash;
 use jf_split::Batch;
 
-/// How versions judge a landing that is told.
+/// How versions judge an announced landing.
 #[derive(Clone, Copy, Debug, PartialEq, Eq)]
 pub enum Judgement {
     /// The version is there already, with this root.
@@ -21,7 +21,7 @@ pub enum Judgement {
 }
 
 /// Judges a landing by what is recorded of a store's versions. `Next` says that it is of the version after the head, whose
-/// root isn't recorded: it is to be landed if its batch comes to the announced root.
+/// root isn't recorded: it is to be landed if its batch results in the announced root.
 pub(crate) fn judge<D: Disk>(
     engine: &Engine<D>,
     version: u64,

@@ -1,5 +1,5 @@
 //! A follower is a store that takes the landings of another store. It finds the root of each in memory before it writes, and
-//! refuses the first landing that doesn't come to the announced root.
+//! refuses the first landing that doesn't result in the announced root.
 #![tactic(auto)]
 
 mod fault;

@@ -31,15 +31,15 @@ pub struct FollowedInput<D: Disk> {
 }
 
 /// Follows the landing blocks of a source (docs/FORMATS.md, "Landing blocks"), and at the end of the input writes into a sink
-/// the line that tells where the store has come to: `followed HEAD ROOT`.
+/// the line that reports what the store has reached: `followed HEAD ROOT`.
 ///
 /// Input is taken in pieces of at most 65,536 bytes, and only while no whole line is at hand. A block is taken at its last
 /// line, before the source is asked for more: so if the source fails then, the store has each block whose last line was taken.
 /// The landings are entries of owner 0, each with the moment of the disk at which it was acknowledged. `Follower::take` says
-/// what each block makes of the store; the first one that it refuses ends the following:
+/// what effect each block has on the store; the first one that it refuses ends the following:
 ///
 /// - `Refused(Line)`, `Refused(Block)`: a line doesn't match or is missing at the end of the input, or a block is refused.
-///   The blocks before it were followed, and every image of the disk still stands for the versions that they lead to. Fewer
+///   The blocks before it were followed, and every image of the disk still represents the versions that they lead to. Fewer
 ///   than 65,536 bytes after the line that decides it were taken.
 /// - `ReadFault`, `Memory`: the blocks up to there were followed.
 /// - `DiskFault`: the disk failed in a landing; those before it stand. The store is broken, and after no other end.
@@ -126,7 +126,7 @@ fn how_ended<K: Sink, D: Disk>(
 }
 
 /// Ends the input: refuses the line that is missing, if it ends in the middle of a block; otherwise writes the line that tells
-/// where the store has come to.
+/// what the store has reached.
 fn tell_end<K: Sink, D: Disk>(alloc: Global, following: &Following<D>, sink: &mut K) -> Followed
     ensures written { EndsFollowing result following.now.reader following.now.follower.versions (K.text sink.old) (K.text sink.new) }
     ensures cause { result ≡ Followed.WriteFault → HasCause (K.faults sink.old) (K.faults sink.new) }
@@ -154,7 +154,7 @@ fn tell_end<K: Sink, D: Disk>(alloc: Global, following: &Following<D>, sink: &mu
     }
 }
 
-/// The line that tells where a follower has come to: its head, and the root of that version.
+/// The line that reports what a follower has reached: its head, and the root of that version.
 fn followed_line(alloc: Global, head: u64, root: &Hash) -> Result<Bytes, Memory>
     ensures { IfOk result (λ line. line ≡ line_text (codes "followed" ∷ decimal head ∷ encode_lower root.now ∷ [])) }
 {

@@ -1,7 +1,7 @@
-// What a follower made of a landing.
+// What a follower did with a landing.
 use jf_engine::Landed;
 
-/// What a follower made of a landing that it took.
+/// What a follower did with a landing that it took.
 #[derive(Clone, Copy, Debug, PartialEq, Eq)]
 pub enum Taken {
     /// The version was there already, with this root. Nothing changed.

@@ -92,7 +92,7 @@ impl ForkTable {
         }
     }
 
-    /// The tree of a fork: the map that it stands for, over the map of the head. It is refused exactly if the fork was
+    /// The tree of a fork: the map that it represents, over the map of the head. It is refused exactly if the fork was
     /// not made yet or is gone.
     pub fn tree(&self, id: u64) -> Result<&SpecTree, ForkFault>
         // It is refused exactly if the fork is missing: `Unknown` if it was not made yet, `Gone` if it is no longer live.

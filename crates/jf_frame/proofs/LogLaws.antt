@@ -34,8 +34,8 @@ ready_read w s log reading quiet some more =
       closed = λ one. ends.1 (ap (slice_index bytes) (sym reading.ends) ∙ one);
     }
 
--- ---- a side that was begun
--- the first gate of a begun side is closed
+-- ---- a side that was initialised
+-- the first gate of an initialised side is closed
 pub closed_first : (bytes : List ℕ) → slice_index (with_closed bytes) 0 ≢ 1
 closed_first [] = λ one. absurd (omega arith)
 closed_first (gate ∷ rest) =
@@ -44,12 +44,12 @@ closed_first (gate ∷ rest) =
       | false ↦ λ isnt one. absurd (true≢false (sym (eq-eqb gate 1 one) ∙ isnt))
     ] refl
 
--- a begun side is one byte long
+-- an initialised side is one byte long
 pub length-begun : (bytes : List ℕ) → length (take 1 (with_closed bytes)) ≡ 1
 length-begun [] = refl
 length-begun (gate ∷ rest) = refl
 
--- a begun side is ready for a first record
+-- an initialised side is ready for a first record
 pub begun_ready : (w : Side) (s : DiskState) (bytes : List ℕ) → content_on w s ≡ durable (take 1 (with_closed bytes)) → IsReady w 0 [] s
 begun_ready w s [] is = record {
   quiet = is ∙ ap (λ (c : Content). durable c.bytes) (sym is);

@@ -1,4 +1,4 @@
--- Whether a place changed is told by how many bits are set.
+-- Whether a place changed is determined by how many bits are set.
 use Rattle.std.specs.Prelude.{◌≡◌, Bool, true, false, List, [], ◌∷◌}
 use Rattle.std.specs.List.{count_by}
 use Rattle.std.proofs.Common.{arith, refl, ◌∙◌, sym}

@@ -1,4 +1,4 @@
--- What a range of places holds is told by how many children and how many leaves stand in it.
+-- What a range of places holds is determined by how many children and how many leaves stand in it.
 use Rattle.std.specs.Prelude.{◌≡◌, ℕ, zero, suc, ◌==◌, nat_lt, ◌<◌, ◌≤◌, ◌⊎◌, Bool, List, [], ◌∷◌, map, take, drop}
 use Rattle.std.specs.List.{count_by}
 use Rattle.std.proofs.Common.{arith, refl, ap, ◌∙◌, sym, inl, inr}
@@ -11,7 +11,7 @@ use Rattle.jf_hash.specs.Ranges.{is_many}
 use Rattle.jf_hash.specs.declared.slot.Slot.{Slot}
 use Rattle.jf_hash.specs.declared.slot.Slot.TheVariants as slot
 
--- what so many children, of which so many are leaves, come to
+-- the occupants of a range with so many children, of which so many are leaves
 abbrev pub AreCounts : Occupants → ℕ → ℕ → Type 0
 AreCounts Empty children leaves = children ≡ 0
 AreCounts (Lone hash) children leaves = (children ≡ 1) × (leaves ≡ 1)

@@ -18,7 +18,7 @@ abbrev pub ones : {X : Type 0} → ℕ → List (List ℕ × X) → List (List �
 ones d es = filter (λ e. bit e.0 d) es
 
 -- the root of leaves whose keys agree in their first d bits and have n bits more: of no leaf, of one alone, or of both parts by bit d.
--- Keys that have no bit more and agree are one key, so two leaves never come to that end
+-- Keys that have no bit more and agree are one key, so two leaves never reach that end
 unfoldable pub root_below : ℕ → ℕ → List Leaf → List ℕ
 root_below n d [] = E
 root_below n d (e ∷ []) = L e.0 e.1

@@ -1,4 +1,4 @@
-// What stands in a range of places is told by counting the bits of two maps.
+// What stands in a range of places is determined by counting the bits of two maps.
 ghost use Rattle.std.specs.Prelude.{◌≡◌, ℕ, ◌+◌, ◌-◌, ◌^◌, ◌==◌, ◌≤◌, ◌++◌, List, Bool, false, length, map, replicate, take, drop, is_some};
 ghost use Rattle.std.specs.List.{count_by};
 ghost use Rattle.jf_hash.specs.Slots.{occupants, is_occupied, holds_leaf};

@@ -42,7 +42,7 @@ module _ (store : Store) (s : Served) (out_of_memory : List ℕ) (entries : List
     ends : EndsBy how store.start r.mid r.last r.next
     ends = subst (λ (e : End). EndsBy e store.start r.mid r.last r.next) is r.ends
 
-    -- it was told all replies
+    -- all replies were written
     all_told : s.replies ≡ r.had → (text_in s.replies ≡ text_of (answers store.start.state r.done) → WritesAlone how store.start.state r.done (text_in s.replies))
         → ServedAlone how store.start.state s.script entries (attempt_of closed.events) (text_in s.replies)
     all_told told writes =

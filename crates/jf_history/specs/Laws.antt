@@ -104,7 +104,7 @@ abbrev pub OneServedIsAlone : Type 0
 OneServedIsAlone = (store : Store) (s : Served) (out_of_memory : List ℕ) (entries : List Entry) (engine : Engine) → store.start.passes ≡ 1 → store.start.state.count ≡ 0 → s.pass.number ≡ 0 → (s.how ≡ end.WriteFault → ⊥)
     → (closed : IsClosed store.start (s.pass ∷ []) entries engine) → IsServed store out_of_memory 0 s → ServedAlone s.how store.start.state s.script entries (attempt_of closed.events) (text_in s.replies)
 
--- each image left since it began stands for versions of which the floor is above no version that a session has pinned after its replies
+-- each image left since it began represents versions whose floor is above no version pinned by a session after its replies
 abbrev pub ClosedSparesPins : Type 0
 ClosedSparesPins = (store : Store) (before after : List Served) (s : Served) (out_of_memory : List ℕ) (entries : List Entry) (engine : Engine) → IsClosed store.start (passes_of (before ++ s ∷ after)) entries engine
     → (served : IsServed store out_of_memory (length before) s) → (h : History) → engine.history ≡ Some h → SparesPinsSince store.start.moment h (own_after_replies (begun_session (length before)) served.had)

@@ -46,7 +46,7 @@ ReadsBy end.DiskFault taken left ls = Unit {0}
 ReadsBy end.Broken taken left ls = Unit {0}
 ReadsBy end.Memory taken left ls = Unit {0}
 
--- of an input all but `left` was taken; these lines are the first of those read, as many as the end of the run says. The next line, if one was begun, was read too
+-- of an input all but `left` was taken; these lines are the first of those read, as many as the end of the run says. The next line, if one was started, was read too
 pub record HasReadInput (e : End) (all left : List ℕ) (ls : List (List ℕ)) (next : Option (List ℕ)) : Type 0 where
   pub taken : List ℕ
   pub split : all ≡ taken ++ left
@@ -85,7 +85,7 @@ pub record Writes (e : End) (rs : List Answered) (old new : Option (List ℕ)) :
   pub appended : new ≡ option_map (λ t. t ++ text) old
 
 -- ---- a run
--- nothing was begun after the lines done, or a line at which nothing was done
+-- nothing was started after the lines done, or a line at which nothing was done
 abbrev pub IsAtRest : Session → Session → Option (List ℕ) → Type 0
 IsAtRest mid last None = last ≡ mid
 IsAtRest mid last (Some line) = HasDoneNothing mid last line

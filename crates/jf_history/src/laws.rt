@@ -107,8 +107,8 @@ pub fn closed_blames()
     ensures { ClosedBlames }
 {}
 
-/// No image left since a store began, which was then closed, stands for versions with a floor above a version that one of its
-/// sessions has pinned in the end.
+/// No image left since a store began, which was then closed, represents versions with a floor above a version that one of
+/// its sessions has pinned in the end.
 pub fn closed_spares_pins()
     // No image left since the store began has a floor above a version that a session has pinned.
     ensures { ClosedSparesPins }

@@ -186,7 +186,7 @@ fed_cut_in {source = source} {source' = source'} c reads = record {
   ended = inr (inl (c.line, c.later, c.ends, subst (λ (x : List (List ℕ)). ReadsLinesOf source source' x) c.lines_are reads));
 }
 
--- what a line makes of the machine, with what it adds gathered, for whatever line of which this is given
+-- the effect of a line on the machine, with what it adds gathered, for whatever line of which this is given
 abbrev pub Step : {M F : Type 0} → (M → List ℕ → M → Result (List ℕ) F → Type 0) → (M → M → Type 0) → M → List ℕ → M → Option (List ℕ) → Option (List ℕ) → List ℕ → List ℕ → Type 0
 Step takes quiet now line next text text' out out' = (whole : List ℕ) → line ≡ given_of whole → (t : List ℕ) × takes now whole next (Ok t) × Gathers quiet now next text text' out out' t
 

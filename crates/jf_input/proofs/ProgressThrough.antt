@@ -1,5 +1,5 @@
 -- An input of which lines were taken so far, where what they add is put into a sink until a fault cuts it, and how it ends.
--- What they add is told as over a sink that takes all of it, whose text was empty at first.
+-- What they add is stated as over a sink that takes all of it, whose text was empty at first.
 use Rattle.std.specs.Prelude.{Result, Err, Bool, false}
 use Rattle.std.proofs.Common.{◌≡◌, ◌⊎◌, ℕ, ◌+◌, List, ◌++◌, Option, Some, None, [], ◌∷◌, refl, sym, ◌∙◌, subst, append-nil, inl, inr, length, ◌<◌, take}
 use Rattle.std.specs.List.{position_or_len, before_first, after_first}

@@ -1,4 +1,4 @@
--- What a machine that takes lines makes of the lines of an input, and what it adds to a text.
+-- The effect of the lines of an input on a machine that takes lines, and what it adds to a text.
 use Rattle.std.specs.Prelude.{ℕ, ◌+◌, ◌<◌, List, take, ◌≡◌, [], ◌∷◌, ◌++◌, Result, Ok, Option, option_map, Some, length, Err, ◌⊎◌}
 use Rattle.jf_io.specs.Lines.{lines, whole_lines, bytes_after}
 use Rattle.jf_io.specs.LinesRead.{AreFirst}
@@ -16,7 +16,7 @@ abbrev pub Took : {M F : Type 0} → (M → List ℕ → M → Result (List ℕ)
 Took takes old [] new text = (new ≡ old) × (text ≡ [])
 Took takes old (line ∷ ls) new text = (mid : _) × (t : List ℕ) × (more : List ℕ) × takes old line mid (Ok t) × Took takes mid ls new more × (text ≡ t ++ more)
 
--- whatever the machine makes of a line of which this is given, it is quiet
+-- whatever the effect on the machine of a line of which this is given, it is quiet
 abbrev pub IsQuietLine : {M F : Type 0} → (M → List ℕ → M → Result (List ℕ) F → Type 0) → (M → M → Type 0) → M → List ℕ → Type 0
 IsQuietLine {M} {F} takes quiet old line = (whole : List ℕ) → line ≡ given_of whole → (new : M) (r : Result (List ℕ) F) → takes old whole new r → quiet old new
 
@@ -25,7 +25,7 @@ abbrev pub GoesOnQuietly : {M F : Type 0} → (M → List ℕ → M → Result (
 GoesOnQuietly takes quiet old [] new = new ≡ old
 GoesOnQuietly {M} {F} takes quiet old (line ∷ ls) new = (mid : M) × (r : Result (List ℕ) F) × takes old line mid r × quiet old mid × GoesOnQuietly takes quiet mid ls new
 
--- this was appended to a text, if it is told
+-- this was appended to a text, if the text is known
 abbrev pub Appends : Option (List ℕ) → Option (List ℕ) → List ℕ → Type 0
 Appends old new text = new ≡ option_map (λ t. t ++ text) old
 

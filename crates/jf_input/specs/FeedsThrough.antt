@@ -1,4 +1,4 @@
--- What a machine makes of the lines of an input, and what a sink takes of that which can't end it.
+-- The effect of the lines of an input on a machine, and what a sink takes of that which can't end it.
 use Rattle.std.specs.Prelude.{ℕ, List, ◌≡◌, ◌++◌, [], Result, Ok, Option, None, Bool, true, false}
 use Rattle.jf_io.specs.Sink.{IsCutShort}
 use Rattle.jf_input.specs.Feeds.{Appends, Fed}

@@ -22,10 +22,10 @@ pub trait LineMachine {
     /// It takes what comes next.
     ghost ready: { Self → Type 0 };
 
-    /// What a line makes of it, and what it adds there, or why it stops.
+    /// The effect of a line on it, and what it adds there, or why it stops.
     ghost takes: { Self → List ℕ → Self → Result (List ℕ) Self.Stop → Type 0 };
 
-    /// What the end of the input makes of it, in the same way.
+    /// The effect of the end of the input on it, in the same way.
     ghost ends: { Self → Self → Result (List ℕ) Self.Stop → Type 0 };
 
     /// What holds between two states if nothing changed but in the machine itself, so that what was added before may

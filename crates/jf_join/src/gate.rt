@@ -1,6 +1,6 @@
 // A gate is called before each piece of work begins; tests use it to hold work back.
 
-/// A gate is told of work before the work begins. Each call returns, though it may be slow, so that a caller can set
+/// A gate is notified of work before the work begins. Each call returns, though it may be slow, so that a caller can set
 /// the order in which work begins. No result depends on what a gate does.
 pub trait Gate: Sync {
     /// The work on this piece is about to begin. The pieces of an update are numbered from 0, at most sixteen of them; if a

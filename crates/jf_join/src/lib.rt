@@ -1,5 +1,5 @@
 //! Applies one function to many pieces of work and returns the results in the order of the pieces, worked by at most as
-//! many threads as `Workers` says. A gate is told of each piece, and of each session, before it begins.
+//! many threads as `Workers` says. A gate is notified of each piece, and of each session, before it begins.
 #![tactic(auto)]
 
 mod gate;

@@ -11,7 +11,7 @@ use jf_path::Memory;
 use std::alloc::Global;
 use std::thread::{Threads, join};
 
-/// Applies `f` to each piece: result i is that of piece i. Before piece i is worked the gate is told its number, i. At
+/// Applies `f` to each piece: result i is that of piece i. Before piece i is worked on, the gate gets its number, i. At
 /// most `workers` pieces are worked at once. Each worker takes pieces that stand one after another, and one of the
 /// workers is the caller's own thread; where no thread can be made, the caller does that work too.
 pub fn join_pieces<H: Threads + Sync, T: Sync, R: Send + Drop, G: Gate, F: Fn(&T) -> R + Sync>(

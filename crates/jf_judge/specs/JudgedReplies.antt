@@ -28,7 +28,7 @@ WritesLookup judged.Memory shown text text' = text' ≡ text
 abbrev pub max_reply : ℕ
 max_reply = 260 * (max_line + 1)
 
--- a front of an input was taken, which is at most a piece longer than any proof block. The input is what the source had, if that is told
+-- a front of an input was taken, at most a piece longer than any proof block. The input is what the source had, if known
 pub record HasTaken (rest rest' : Option (List ℕ)) (taken : List ℕ) : Type 0 where
   pub input : List ℕ
   pub left : List ℕ
@@ -41,7 +41,7 @@ abbrev pub TakesReply : Option (List ℕ) → Option (List ℕ) → List ℕ →
 TakesReply rest rest' taken = (front : HasTaken rest rest' taken) × (length taken ≤ max_reply → front.left ≡ [])
 
 -- ---- the whole
--- judging came to what the reply shows: the source didn't fail, and memory didn't run out
+-- the result of judging is what the reply shows: the source didn't fail, and memory didn't run out
 abbrev pub IsVerdict : Judged → Type 0
 IsVerdict how = (how ≢ judged.ReadFault) × (how ≢ judged.Memory)
 

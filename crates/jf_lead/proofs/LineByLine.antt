@@ -17,7 +17,7 @@ use Rattle.jf_lead.specs.Laws.{LandingsComeLineByLine}
 use Rattle.jf_blocks.proofs.Bounds.{Bounded}
 use Rattle.jf_lead.proofs.Bounds.{landing_body-bounded}
 
--- what lines from a state on come to
+-- the result of lines from a state on
 abbrev pub blocks_at : ℕ → Stage → List (List ℕ) → LandingBlocks
 blocks_at at s ls = blocks_after (record { at = at; stage = s }) ls
 
@@ -26,7 +26,7 @@ abbrev with_block_if : Option (ℕ × LandingBlock) → LandingBlocks → Landin
 with_block_if None bs = bs
 with_block_if (Some b) bs = with_block b bs
 
--- what lines come to after a step
+-- the result of lines after a step
 abbrev goes : Step → ℕ → List (List ℕ) → LandingBlocks
 goes step at ls = with_block_if step.block (blocks_at at step.stage ls)
 
@@ -46,7 +46,7 @@ unfolding ended_blocks reading_after_all landing_line_step
 refused_stays at i [] = refl
 refused_stays at i (line ∷ ls) = refused_stays at i ls
 
--- what a block that begins at a line comes to, read or not, with the lines after it
+-- the result of a block that begins at a line, read or not, with the lines after it
 abbrev pub answered : ℕ → Read LandingBlock → LandingBlocks
 answered first (Ok b) = with_block (first, b.0) (blocks_at b.1.at stage.Between b.1.left)
 answered first (Err at) = record { whole = []; bad = Some at }

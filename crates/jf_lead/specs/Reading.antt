@@ -53,7 +53,7 @@ landing_body head p = and_then (changes_after [] head.changes p) (λ batch q. gi
 abbrev pub landing_block : Place → Read LandingBlock
 landing_block p = and_then (line_by landing_line_of p) landing_body
 
--- what lines of blocks come to: the whole blocks, each with the number of its first line; and the number of the line after
+-- the result of lines of blocks: the whole blocks, each with the number of its first line; and the number of the line after
 -- them that doesn't match or is missing, if there is one
 pub record LandingBlocks : Type 0 where
   pub whole : List (ℕ × LandingBlock)
@@ -63,7 +63,7 @@ pub record LandingBlocks : Type 0 where
 abbrev pub with_block : ℕ × LandingBlock → LandingBlocks → LandingBlocks
 with_block b bs = record { whole = b ∷ bs.whole; bad = bs.bad }
 
--- what the lines from a place on come to. n is at least the number of these lines
+-- the result of the lines from a place on. n is at least the number of these lines
 unfoldable pub blocks_from : ℕ → Place → LandingBlocks
 blocks_from zero p = record { whole = []; bad = None }
 blocks_from (suc n) p =
@@ -72,6 +72,6 @@ blocks_from (suc n) p =
       | line ∷ rest ↦ elim (landing_block p) [ Err at ↦ record { whole = []; bad = Some at } | Ok b ↦ with_block (p.at, b.0) (blocks_from n b.1) ]
     ]
 
--- what all lines come to, numbered from 1
+-- the result of all lines, numbered from 1
 abbrev pub landing_blocks : List (List ℕ) → LandingBlocks
 landing_blocks ls = blocks_from (length ls) (first_place ls)

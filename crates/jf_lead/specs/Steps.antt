@@ -26,7 +26,7 @@ begun_reading = record { at = 1; stage = stage.Between }
 abbrev pub stopped_reading : LandingReading → LandingReading
 stopped_reading s = record { at = s.at; stage = stage.Refused fault.Memory }
 
--- of a block that is begun changes are still to come, and with those it has at most 10,000
+-- of a block that has started changes are still to come, and with those it has at most 10,000
 abbrev pub HasChangesLeft : Stage → Type 0
 HasChangesLeft stage.Between = Unit {0}
 HasChangesLeft (stage.Block b) = (0 < b.changes_left) × (length b.batch + b.changes_left ≤ max_keys)
@@ -106,7 +106,7 @@ stage_refusal stage.Between = None
 stage_refusal (stage.Block b) = None
 stage_refusal (stage.Refused why) = Some why
 
--- the refusal at the end of the lines: of the line that is missing, if a block is begun
+-- the refusal at the end of the lines: of the line that is missing, if a block has started
 abbrev pub refusal_at_end : ℕ → Stage → Option LandingFault
 refusal_at_end at stage.Between = None
 refusal_at_end at (stage.Block b) = Some (fault.Line at)
@@ -118,7 +118,7 @@ bad_line None = None
 bad_line (Some (fault.Line at)) = Some at
 bad_line (Some fault.Memory) = None
 
--- what lines from a state on come to: the blocks that end with them, and the line that is refused at their end
+-- the result of lines from a state on: the blocks that end with them, and the line that is refused at their end
 abbrev pub blocks_after : LandingReading → List (List ℕ) → LandingBlocks
 blocks_after s ls = let last = reading_after_all s ls in record { whole = ended_blocks s ls; bad = bad_line (refusal_at_end last.at last.stage) }
 

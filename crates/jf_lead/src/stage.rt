@@ -22,15 +22,15 @@ pub struct Begun {
 /// How far the blocks are read.
 #[derive(Debug, Drop)]
 pub enum Stage {
-    /// Every block that was begun is whole.
+    /// Every block that was started is whole.
     Between,
-    /// A block is begun.
+    /// A block has started.
     Block(Begun),
     /// A line was refused, or memory ran out: no later line is read.
     Refused(LandingFault),
 }
 
-/// What a line makes of the blocks.
+/// The effect of a line on the blocks.
 #[derive(Debug, Drop)]
 pub struct Step {
     /// How far the blocks are read after it.

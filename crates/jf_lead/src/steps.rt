@@ -1,4 +1,4 @@
-// What one line makes of the blocks.
+// The effect of one line on the blocks.
 ghost use Rattle.std.specs.Prelude.{◌≡◌, ◌+◌, ◌≤◌, ◌<◌, ◌++◌, ◌∷◌, [], length, if◌then◌else◌, true, Some, None, IfOk, OnOk, IfSome};
 ghost use Rattle.jf_path.specs.Limits.{max_value};
 ghost use Rattle.jf_split.specs.Limits.{max_keys};

@@ -26,9 +26,9 @@ pub record ShowsFiles (a b : Option (List ℕ)) (s : SeenFiles) : Type 0 where
   pub refusal_is : s.refusal ≡ store_refusal (seen_of a) (seen_of b)
 
 -- ---- after the call
--- the status of the program, by that of the call and by why no store would be opened over the files. The files were told of whole if the
--- call was done or damage was told: an opening would be refused first of all. The bytes are in memory, so a call on them fails only if it
--- has no room
+-- the status of the program, by that of the call and by why no store would be opened over the files. The files were reported
+-- whole if the call was done or damage was reported: an opening would be refused first of all. The bytes are in memory, so a
+-- call on them fails only if it has no room
 abbrev pub end_status : Status → Option FaultCause → Status
 end_status status.Done None = status.Done
 end_status status.Done (Some cause) = status.DiskFault
@@ -43,7 +43,7 @@ end_cause status.Done refusal = refusal
 end_cause (status.Damaged where_ at) refusal = refusal
 end_cause s refusal = None
 
--- ---- by what was told
+-- ---- by what was reported
 -- the status after a check: that of an opening of these files, which is refused first of all if no store is opened over them
 abbrev pub check_status : Result StoreCheck Unchecked → Option FaultCause → Status
 check_status (Err unchecked.DiskFault) refusal = status.Memory
@@ -53,7 +53,7 @@ check_status (Ok store) (Some cause) = status.DiskFault
 check_status (Ok (store_check.Damaged where_ at)) None = status.Damaged where_ at
 check_status (Ok (store_check.Sound live kept checkpoint)) None = status.Done
 
--- why no store is opened over the files, if they were told of
+-- why no store is opened over the files, if they were reported
 abbrev pub check_cause : Result StoreCheck Unchecked → Option FaultCause → Option FaultCause
 check_cause (Ok store) refusal = refusal
 check_cause (Err why) refusal = None

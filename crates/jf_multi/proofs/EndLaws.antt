@@ -40,7 +40,7 @@ end_in-single_proof d key (Fork left right) =
       | false ↦ end_in-single_proof (d + 1) key left ∙ one_longer d (single_proof (d + 1) key left) (tree_root right)
     ]
 
--- a single proof comes to the root of the tree, and has a sibling for each fork above its end
+-- a single proof results in the root of the tree, and has a sibling for each fork above its end
 pub record IsSingle (d : ℕ) (key : List ℕ) (tree : Tree) (p : Proof) : Type 0 where
   pub top : climb_to d key (start_of p.leaf) p.siblings ≡ tree_root tree
   pub short : length p.siblings ≤ tree_height tree

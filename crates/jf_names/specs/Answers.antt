@@ -12,15 +12,15 @@ use Rattle.jf_names.specs.declared.fault.NamesFault.TheVariants as fault
 abbrev pub IsInside : Versions → ℕ → Type 0
 IsInside v version = (v.floor ≤ version) × (version ≤ v.head)
 
--- the input, if it is told, has these names and was read to its end
+-- the input, if it is known, has these names and was read to its end
 abbrev pub AsksFor : List (List ℕ) → Option (List ℕ) → Option (List ℕ) → Type 0
 AsksFor names rest rest' = (input : List ℕ) → rest ≡ Some input → (names_of input ≡ Ok names) × (rest' ≡ Some [])
 
--- the input, if it is told, is refused at this line
+-- the input, if it is known, is refused at this line
 abbrev pub IsRefusedAt : ℕ → Option (List ℕ) → Type 0
 IsRefusedAt at rest = (input : List ℕ) → rest ≡ Some input → names_of input ≡ Err at
 
--- of the input, if it is told, the lines up to this one were read, and less than a piece beyond it
+-- of the input, if it is known, the lines up to this one were read, and less than a piece beyond it
 abbrev pub ReadsToRefusal : ℕ → Option (List ℕ) → Option (List ℕ) → Type 0
 ReadsToRefusal at rest rest' = (ls : List (List ℕ)) × (length ls ≡ at) × ReadsFew MAX_PIECE rest rest' ls
 

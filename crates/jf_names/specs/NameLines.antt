@@ -23,7 +23,7 @@ after_name s name = record { at = s.at + 1; names = with_new_name s.names name }
 abbrev pub after_name_line : NamesSoFar → List ℕ → Option NamesSoFar
 after_name_line s line = if nat_le s.at max_names then option_map (after_name s) (name_of line) else None
 
--- what a line makes of it: a name is added; or the line is refused, or memory ran out
+-- the effect of a line on it: a name is added; or the line is refused, or memory ran out
 abbrev pub TakesName : NamesSoFar → List ℕ → NamesSoFar → Result (List ℕ) NamesFault → Type 0
 TakesName s line next (Ok text) = (after_name_line s line ≡ Some next) × (text ≡ [])
 TakesName s line next (Err (fault.Line at)) = (at ≡ s.at) × (after_name_line s line ≡ None)
@@ -37,7 +37,7 @@ abbrev pub EndsNames : NamesSoFar → NamesSoFar → Result (List ℕ) NamesFaul
 EndsNames s next (Ok text) = (next ≡ s) × (text ≡ [])
 EndsNames s next (Err why) = ⊥
 
--- the input, if it is told, has names that come to these in the order of their keys, and was read to its end
+-- the input, if it is known, has names that result in these in the order of their keys, and was read to its end
 abbrev pub HasNames : List (List ℕ × List ℕ) → Option (List ℕ) → Option (List ℕ) → Type 0
 HasNames es rest rest' = (names : List (List ℕ)) × AsksFor names rest rest' × (es ≡ names_by_key names)
 

@@ -79,7 +79,7 @@ pub all_by_place : (P : Option LinkValue → Type 0) (links : List (Option LinkV
 all_by_place P [] h = tt
 all_by_place P (x ∷ links) h = (h 0 (omega arith), all_by_place P links (λ k lt. h (suc k) (omega (arith, lt))))
 
--- children that are packed stand for themselves
+-- children that are packed represent themselves
 pub packed_is : (xs : List (Option LinkValue)) (there : List Bool) (links : List LinkValue) → there ≡ map is_some xs → links ≡ present xs → spread_items there links ≡ xs
 packed_is xs there links e f = ap₂ spread_items e f ∙ spread-present xs
 

@@ -83,7 +83,7 @@ older_of (a ∷ left) (b ∷ right) apart =
       | false ↦ λ ge. let le : m ≤ n = ltb-false _ _ ge in inr (omega arith)
     ] refl
 
--- one more record keeps a begun side begun
+-- one more record keeps an initialised side initialised
 pub begun_push : (rs : List Framed) (r : Framed) → 0 < length rs → is_begun (rs ++ r ∷ []) ≡ is_begun rs
 begun_push [] r some = absurd (omega arith)
 begun_push (x ∷ rs) r some = refl

@@ -1,4 +1,4 @@
--- A side is begun, and one record is appended to it.
+-- A side is initialised, and one record is appended to it.
 use Rattle.std.proofs.Common.{◌≡◌, ◌⊎◌, ℕ, List, [], ◌∷◌, Ok, inl, inr, ◌+◌, ◌++◌, length, append-nil, ap, ◌∙◌, arith}
 use Rattle.std.proofs.lemmas.List.{drop_all}
 use Rattle.jf_disk.specs.Disk.{Files, bytes_of, History, content_on, put_at}
@@ -25,6 +25,6 @@ first_stops w h g k r a b =
     let begun = begin_stops w h g r a in
     (goes_further h g k (SameNoneOrOne w (content_on w h.now).bytes r) begun.0 (goes_weaker g k (WithOrWithout w [] r) (SameNoneOrOne w (content_on w h.now).bytes r) (append_left w (content_on w h.now).bytes r) b.images), other_further w h g k a.other b.other)
 
--- the gate and the frame, written over the one byte of a begun side
+-- the gate and the frame, written over the one byte of an initialised side
 pub put_first : (frame b : List ℕ) → length b ≡ 1 → put_at 0 (1 ∷ frame) b ≡ 1 ∷ frame
 put_first frame b one = ap (λ t. (1 ∷ frame) ++ t) (drop_all (0 + length (1 ∷ frame)) b (omega arith)) ∙ append-nil (1 ∷ frame)

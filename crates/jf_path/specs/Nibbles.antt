@@ -3,7 +3,7 @@ use Rattle.std.specs.Prelude.{ℕ, Bool, cond, ◌+◌, ◌*◌, List, zero, suc
 use Rattle.std.specs.Bool.{beq}
 use Rattle.jf_path.specs.Keys.{bit}
 
--- the number that a bit stands for
+-- the number that a bit represents
 abbrev pub bit_number : Bool → ℕ
 bit_number b = cond b 1 0
 

@@ -22,7 +22,7 @@ use Rattle.jf_payload.proofs.Spells.{Spells, bind_some}
 use Rattle.jf_payload.proofs.RecordSpells.{IsWholeCheckpoint, whole_bytes, whole_at, whole_spells, whole_checkpoint, commit_spells, group_spells, Whole, checkpoint_whole}
 use Rattle.jf_payload.proofs.FieldSpells.{number_spells}
 
--- the content of a record that was read, and the record made of it
+-- the content of a record that was read, and the record built from it
 record Took {X : Type 0} (s : X → List ℕ) (I : X → Type 0) (view : X → Record) (bytes : List ℕ) (x : Record × List ℕ) : Type 0 where
   value : X
   text : Takes bytes (s value) x.1

@@ -38,7 +38,7 @@ Gives view (Err e) read = FailsToRead e read
 abbrev pub Front : Type 0 → Type 0
 Front X = List ℕ → Option (X × List ℕ)
 
--- ---- readers made of readers
+-- ---- readers built from readers
 -- a value, and a second one that may depend on the first
 abbrev pub both_at : {X Y : Type 0} → Front X → (X → Front Y) → Front (X × Y)
 both_at one other bytes = do

@@ -72,7 +72,7 @@ changed-here k v (suc n) (e ∷ es) sorted below at =
 later_count : (k : List ℕ) (e : MapEntry) (es : List MapEntry) (i : ℕ) → IsCountBelow k (e ∷ es) (suc i) → IsCountBelow k es i
 later_count k e es i h = record { within = let w = h.within in omega arith; before = λ j d lt. h.before (suc j) d (omega arith); next = λ d lt. h.next d (omega arith) }
 
--- a batch gives the entries below its next key, what it puts there, and then what its rest makes of the entries after them
+-- a batch gives the entries below its next key, what it puts there, and then its rest's result for the entries after them
 pub applied-step : (es : List MapEntry) (k : List ℕ) (v : Option (List ℕ)) (bs : Batch) (i n : ℕ) → T (is_sorted key_cmp es) → T (is_sorted key_cmp ((k, v) ∷ bs)) → IsCountBelow k es i → IsCountAt k (drop i es) n
     → entries_after_batch es ((k, v) ∷ bs) ≡ take i es ++ with_put k v (entries_after_batch (drop n (drop i es)) bs)
 unfolding entries_after_batch

@@ -107,7 +107,7 @@ pub fn words_of(alloc: Global, line: &str) -> Result<Vec<String>, Fail> {
     Ok(words)
 }
 
-/// Runs the words over a disk, a source and a sink. The gate is told of each piece of work.
+/// Runs the words over a disk, a source and a sink. The gate is notified of each piece of work.
 pub fn run_gated<D: Disk + Drop, H: Threads + Wait + Sync, G: Gate>(
     rt: &H,
     alloc: Global,
@@ -169,7 +169,7 @@ pub fn play_words<D: Disk + Drop, H: Threads + Wait + Sync>(
     played_of(alloc, ended, sink.text().to_vec(alloc)?)
 }
 
-/// Runs the words over a disk and a script with no faults, and returns what was written. The gate is told of each piece
+/// Runs the words over a disk and a script with no faults, and returns what was written. The gate is notified of each piece
 /// of work.
 pub fn play_gated<D: Disk + Drop, H: Threads + Wait + Sync, G: Gate>(
     rt: &H,

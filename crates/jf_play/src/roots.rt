@@ -1,4 +1,4 @@
-// Roots of small maps, by Python's `hashlib`, and texts in which letters stand for them.
+// Roots of small maps, by Python's `hashlib`, and texts in which letters represent them.
 use std::alloc::Global;
 use std::test::Fail;
 
@@ -20,7 +20,7 @@ const BOTH_OTHER: &str = "eefcf9b105d7d02e5a1d9bff2664e0ca9b96376d452f31b6091710
 
 const THREE: &str = "45ca5fd13d3c2aa30c53349d4c1da835de3e3fa0bbc51390419b0db5127f42dc";
 
-// The root that a letter stands for.
+// The root that a letter represents.
 fn root_of(letter: u8) -> Option<&'static str> {
     match letter {
         b'E' => Some(EMPTY),

@@ -122,7 +122,7 @@ impl Frontier {
         climb(&key, 0, &leaf, &self.lefts[..self.depth], steps)
     }
 
-    /// The root that all entries come to with a proof for a chunk that ends with the last one. A step is one hash
+    /// The root that all entries and a proof for a chunk that ends with the last one determine. A step is one hash
     /// computed.
     pub fn chunk_root<L: Ledger>(&self, proof: &RangeProof, steps: &mut Steps<L>) -> Hash
         // There is at least one entry.
@@ -131,7 +131,7 @@ impl Frontier {
         requires depth { proof.now.depth ≤ 256 }
         // The proof has as many siblings as the last key has 0 bits among its first `depth` bits.
         requires counted { IfSome self.now.last (λ l. length proof.now.siblings ≡ zero_bits proof.now.depth 0 l.0) }
-        // If this is the frontier of ascending entries, the result is the root that they and the proof come to.
+        // If this is the frontier of ascending entries, the result is the root that they and the proof determine.
         ensures value { (es : Entries) → self.now ≡ frontier_of es → IsAscending es → result ≡ range_root es proof.now }
         // At most 257 steps are taken.
         ensures cost { steps.new ≤ steps.old + 257 }

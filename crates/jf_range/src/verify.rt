@@ -55,7 +55,7 @@ fn verify_uncounted<L: Ledger>(
     }
 }
 
-/// The root that entries, whose keys ascend strictly, come to with a proof for a chunk that ends with the last one. Its
+/// The root that entries, whose keys ascend strictly, and a proof for a chunk that ends with the last one determine. Its
 /// depth is at most 256, and it has as many siblings as the last key has 0 bits among its first `depth` bits.
 pub fn range_root(entries: &Pairs, proof: &RangeProof) -> Hash
     // There is at least one entry.
@@ -64,7 +64,7 @@ pub fn range_root(entries: &Pairs, proof: &RangeProof) -> Hash
     requires sorted { T (is_sorted key_cmp entries.now) }
     // The depth is at most 256, and there is a sibling for each 0 bit among the last key's first `depth` bits.
     requires counted { is_miscounted (last_key entries.now) proof.now ≡ false }
-    // The result is the root that the entries and the proof come to.
+    // The result is the root that the entries and the proof determine.
     ensures { result ≡ range_root entries.now proof.now }
 {
     root_uncounted::<Brand>(entries, proof, Blank::new(1))

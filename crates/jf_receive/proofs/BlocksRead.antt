@@ -1,4 +1,4 @@
--- What a source comes to whose lines were taken as chunk blocks.
+-- The result of a source whose lines were taken as chunk blocks.
 use Rattle.std.proofs.Common.{◌≡◌, ◌∙◌, inl, inr, ℕ, List, [], ◌∷◌, ◌++◌, length, refl, ap, sym, subst, Option, Some, Result, Ok, Err}
 use Rattle.jf_io.specs.Lines.{lines}
 use Rattle.jf_evidence.specs.Ranges.{Entries}
@@ -32,7 +32,7 @@ out_of_memory-received : (why : BlockFault) → why ≡ block_fault.Memory → (
     → HasReceived (refused_lines why) version root e e rest rest' text text
 out_of_memory-received why is version root e rest rest' text new = subst (λ w. HasReceived (refused_lines w) version root e e rest rest' text text) (sym is) ((new, refl), refl)
 
--- what the end of lines returns, by what all of them come to
+-- what the end of lines returns, by the result of all of them
 ended_ok : (r x : RestoreValue) (o : Result Entries BlockFault) → Ok x ≡ with_entries r o → (x.version ≡ r.version) × (x.root ≡ r.root) × (o ≡ Ok x.entries)
 ended_ok r x (Ok es) e =
     let same : x ≡ (let y : RestoreValue = record { version = r.version; root = r.root; entries = es } in y) = cc in

@@ -92,7 +92,7 @@ unfolding restoring_line_step
 refused_after r at s why line e = rw e refl
 
 -- ---- what is decided
--- lines that come to a whole restore decide no refusal
+-- lines that result in a whole restore decide no refusal
 ok_so : (r : RestoreValue) (x : RestoreValue) (o : Result Entries BlockFault) (n : ℕ) → Ok x ≡ with_entries r o → None ≡ refusal_decided_by n o
 ok_so r x (Ok es) n e = refl
 ok_so r x (Err why) n e = absurd (cc)

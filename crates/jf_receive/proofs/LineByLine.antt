@@ -22,11 +22,11 @@ use Rattle.jf_receive.specs.declared.fault.BlockFault.TheVariants as fault
 abbrev pub Ended : Type 0
 Ended = Result RestoreValue BlockFault
 
--- what lines come to from a state on
+-- the result of lines from a state on
 abbrev from : RestoreValue → ℕ → Stage → List (List ℕ) → Ended
 from r at s ls = restored_at_end (restoring_after_lines (record { restore = r; at = at; stage = s }) ls)
 
--- what lines come to after a step
+-- the result of lines after a step
 abbrev restoring_goes : RestoringStep → ℕ → List (List ℕ) → Ended
 restoring_goes step at ls = from step.restore at step.stage ls
 
@@ -36,7 +36,7 @@ unfolding restoring_after_lines restoring_line_step
 refused_stays r at why [] = refl
 refused_stays r at why (line ∷ ls) = refused_stays r at why ls
 
--- what a block that begins at a line comes to, read or not, with the lines after it
+-- the result of a block that begins at a line, read or not, with the lines after it
 abbrev restoring_answered : RestoreValue → ℕ → Read Chunk → Ended
 restoring_answered r first (Ok b) = restoring_goes (step_after_block r first b.0) b.1.at b.1.left
 restoring_answered r first (Err at) = Err (fault.Line at)

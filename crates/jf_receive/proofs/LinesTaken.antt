@@ -28,7 +28,7 @@ refused_stage stage.Between why e = absurd (cc)
 refused_stage (stage.Block b) why e = absurd (cc)
 refused_stage (stage.Refused w) why e = let same : why ≡ w = cc in ap (λ x. Some x) (sym same)
 
--- what a line made of the state, if memory didn't run out in it
+-- the effect of a line on the state, if memory didn't run out in it
 abbrev pub IsStep : Restoring → List ℕ → Restoring → Type 0
 IsStep s line next = (next ≡ restoring_after s line) ⊎ ((refusal_at_stage s.stage ≡ None) × (next ≡ out_of_memory s))
 
@@ -42,7 +42,7 @@ line-refused s next line (Ok u) is step = tt
 line-refused s next line (Err why) is (inl so) = inr (so, refused_stage next.stage why is)
 line-refused s next line (Err why) is (inr out) = let stopped : Err why ≡ Err fault.Memory = is ∙ ap (λ (m : Restoring). line_result m.stage) out.1 in let same : why ≡ fault.Memory = cc in inl same
 
--- what is made of what is given of a line is made of the line
+-- the result for what is given of a line is the result for the line
 pub takes-whole : (s next : Restoring) (line whole : List ℕ) (r : Result (List ℕ) BlockFault) → LongChunkLinesAreAlike → line ≡ given_of whole → TakesBlockLine s line next r → TakesBlockLine s whole next r
 takes-whole s next line whole r law given takes = by_result r takes
   where

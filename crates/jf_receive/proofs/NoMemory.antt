@@ -8,7 +8,7 @@ use Rattle.jf_receive.specs.Chunks.{chunks_from, accepted_chunk}
 use Rattle.jf_receive.specs.Laws.{NoLinesComeToMemory}
 use Rattle.jf_receive.specs.declared.fault.BlockFault.TheVariants as fault
 
--- what blocks come to is no matter of memory
+-- the result of blocks is no matter of memory
 abbrev IsNoMemory : Result Entries BlockFault → Type 0
 IsNoMemory r = r ≡ Err fault.Memory → ⊥
 

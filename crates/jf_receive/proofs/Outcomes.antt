@@ -38,7 +38,7 @@ module _ (version : ℕ) (root : List ℕ) (old new : Engine) (rest rest' text t
       abbrev outcome : Result Entries RestoreFault
       outcome = restore_result old.generation root input
 
-      -- what refuses the restore is what the input comes to
+      -- what refuses the restore is the result of the input
       refuses : (why : RestoreFault) → Ends (received.Refused why) → outcome ≡ Err why
       refuses (fault.NotEmpty head) h = absurd (unused old.versions is_new h.0.1)
       refuses (fault.Line at) h = h.0.comes input told

@@ -1,4 +1,4 @@
--- What an input comes to whose lines are refused.
+-- The result of an input whose lines are refused.
 use Rattle.std.proofs.Common.{◌≡◌, ℕ, List, [], ap, Result, Ok, Err}
 use Rattle.jf_io.specs.Lines.{lines}
 use Rattle.jf_evidence.specs.Ranges.{Entries}
@@ -7,7 +7,7 @@ use Rattle.jf_receive.specs.declared.fault.BlockFault.{BlockFault}
 use Rattle.jf_receive.specs.Restored.{restore_result, restored_entries, of_block}
 use Rattle.jf_receive.specs.declared.received.RestoreFault.{RestoreFault}
 
--- what lines come to, as what an input comes to
+-- the result of lines, as the result of an input
 abbrev comes_to : ℕ → List ℕ → Result Entries BlockFault → Result Entries RestoreFault
 comes_to generation root r = elim r [ Ok es ↦ restored_entries generation root es | Err why ↦ Err (of_block why) ]
 

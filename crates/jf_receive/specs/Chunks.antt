@@ -1,4 +1,4 @@
--- What lines of chunk blocks come to, all together.
+-- The result of lines of chunk blocks, all together.
 use Rattle.std.specs.Prelude.{ℕ, ◌+◌, List, ◌++◌, Some, None, Result, Ok, Err, zero, suc, [], ◌∷◌, length, ◌==◌, if◌then◌else◌, Option}
 use Rattle.jf_evidence.specs.Ranges.{Entries, range_refusal}
 use Rattle.jf_blocks.specs.Reading.{Chunk, Place, chunk_block, first_place}
@@ -22,7 +22,7 @@ chunks_from (suc n) root known p =
           ]
     ]
 
--- what all lines come to, numbered from 1
+-- the result of all lines, numbered from 1
 abbrev pub chunks : List ℕ → Entries → List (List ℕ) → Result Entries BlockFault
 chunks root known ls = chunks_from (length ls) root known (first_place ls)
 

@@ -1,4 +1,4 @@
--- What the restore of a version from an input makes of a store, by how it ended.
+-- The effect of the restore of a version from an input on a store, by how it ended.
 use Rattle.std.specs.Prelude.{◌≡◌, ◌≢◌, ◌⊎◌, ℕ, List, [], length, Option, Some, None, Result, Ok, Err}
 use Rattle.jf_hash.specs.Maps.{map_of_entries}
 use Rattle.jf_hash.specs.Roots.{root}
@@ -22,11 +22,11 @@ use Rattle.jf_receive.specs.declared.received.RestoreFault.TheVariants as fault
 abbrev pub restore_piece : ℕ
 restore_piece = 4096
 
--- the input, if it is told, comes to this
+-- the input, if it is known, has this result
 abbrev pub ComesTo : ℕ → List ℕ → Option (List ℕ) → Result Entries RestoreFault → Type 0
 ComesTo generation announced rest r = (input : List ℕ) → rest ≡ Some input → restore_result generation announced input ≡ r
 
--- the input, if it is told, was read to its end
+-- the input, if it is known, was read to its end
 abbrev pub IsReadUp : Option (List ℕ) → Option (List ℕ) → Type 0
 IsReadUp rest rest' = (input : List ℕ) → rest ≡ Some input → rest' ≡ Some []
 
@@ -38,13 +38,13 @@ ReadsToDecision announced rest rest' why =
     ⊎ (IsReadUp rest rest' × ((input : List ℕ) → rest ≡ Some input → refusal_decided_by (length (lines input)) (chunks announced [] (lines input)) ≡ None))
 
 -- ---- how it ended
--- a line or a block was refused, as the input comes to
+-- a line or a block was refused, which is the result of the input
 pub record RefusesBlock (announced : List ℕ) (old : Engine) (rest rest' : Option (List ℕ)) (why : BlockFault) : Type 0 where
   pub unused : IsNewStore old.versions
   pub comes : ComesTo old.generation announced rest (Err (of_block why))
   pub soon : ReadsToDecision announced rest rest' why
 
--- the whole input was read and refused, as it comes to
+-- the whole input was read and refused, which is the result of the input
 pub record RefusesWhole (announced : List ℕ) (old : Engine) (rest rest' : Option (List ℕ)) (why : RestoreFault) : Type 0 where
   pub unused : IsNewStore old.versions
   pub comes : ComesTo old.generation announced rest (Err why)

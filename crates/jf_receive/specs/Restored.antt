@@ -1,4 +1,4 @@
--- What the input of a restore comes to, and the line that tells of a restored version (docs/FORMATS.md, "Restoring a version").
+-- The result of the input of a restore, and the line on a restored version (docs/FORMATS.md, "Restoring a version").
 use Rattle.std.specs.Prelude.{◌≡◌, ℕ, ◌-◌, ◌^◌, ◌<◌, List, [], ◌∷◌, length, take, not, ◌||◌, ◌==◌, nat_lt, if◌then◌else◌, bytes_eq, codes, decimal, Some, None, Result, Ok, Err}
 use Rattle.hex.specs.Hex.{encode_lower}
 use Rattle.jf_hash.specs.Roots.{part_root}
@@ -11,13 +11,13 @@ use Rattle.jf_receive.specs.declared.fault.BlockFault.TheVariants as block_fault
 use Rattle.jf_receive.specs.declared.received.RestoreFault.{RestoreFault}
 use Rattle.jf_receive.specs.declared.received.RestoreFault.TheVariants as fault
 
--- the refusal of a line or of a block. No lines come to `Memory`, so it doesn't matter what stands for it
+-- the refusal of a line or of a block. No lines result in `Memory`, so it doesn't matter what represents it
 abbrev pub of_block : BlockFault → RestoreFault
 of_block (block_fault.Line at) = fault.Line at
 of_block (block_fault.Chunk at why) = fault.Chunk at why
 of_block block_fault.Memory = fault.Last
 
--- the entries of all blocks, if they come to the announced root, and files of this generation can take so many
+-- the entries of all blocks, if they result in the announced root, and files of this generation can take so many
 abbrev pub restored_entries : ℕ → List ℕ → Entries → Result Entries RestoreFault
 restored_entries generation root es =
     if not (bytes_eq (part_root 0 es) root) then Err (fault.NotWhole root (part_root 0 es))

@@ -11,7 +11,7 @@ use Rattle.jf_receive.specs.declared.received.Received.{Received}
 use Rattle.jf_receive.specs.declared.received.Received.TheVariants as received
 use Rattle.jf_receive.specs.declared.received.RestoreFault.TheVariants as fault
 
--- what a line makes of it: it isn't refused, or it is; or memory ran out
+-- the effect of a line on it: it isn't refused, or it is; or memory ran out
 abbrev pub TakesBlockLine : Restoring → List ℕ → Restoring → Result (List ℕ) BlockFault → Type 0
 TakesBlockLine s line next (Ok text) = (next ≡ restoring_after s line) × (refusal_at_stage next.stage ≡ None) × (text ≡ [])
 TakesBlockLine s line next (Err why) = (why ≡ block_fault.Memory) ⊎ ((next ≡ restoring_after s line) × (refusal_at_stage next.stage ≡ Some why))
@@ -21,7 +21,7 @@ abbrev pub EndsBlockLines : Restoring → Restoring → Result (List ℕ) BlockF
 EndsBlockLines s next (Ok text) = (next ≡ s) × (text ≡ [])
 EndsBlockLines s next (Err why) = ⊥
 
--- the whole input was read, and its lines come to these entries
+-- the whole input was read, and its lines result in these entries
 pub record ComesToEntries (announced : List ℕ) (es : Entries) (rest rest' : Option (List ℕ)) : Type 0 where
   pub read : IsReadUp rest rest'
   pub comes : (input : List ℕ) → rest ≡ Some input → chunks announced [] (lines input) ≡ Ok es

@@ -1,4 +1,4 @@
-// What one line makes of a block and of the restore.
+// The effect of one line on a block and on the restore.
 ghost use Rattle.std.specs.Prelude.{◌≡◌, IfOk, OnErr};
 ghost use Rattle.jf_blocks.specs.Reading.{line_read, chunk_of, entry_of, side_of};
 ghost use Rattle.jf_restore.specs.Restores.{HaveShortValues};

@@ -21,7 +21,7 @@ pub fn long_lines_are_alike()
     ensures { LongChunkLinesAreAlike }
 {}
 
-/// What lines come to is no matter of memory.
+/// The result of lines is no matter of memory.
 pub fn no_lines_come_to_memory()
     ensures { NoLinesComeToMemory }
 {}

@@ -1,5 +1,5 @@
 //! The restore of a version from an input: chunk blocks are read line by line, each is checked after those before it and
-//! added to a restore once its last line has come, and once all entries come to the announced root, they are imported into
+//! added to a restore once its last line has come, and once all entries result in the announced root, they are imported into
 //! a new store.
 #![tactic(auto)]
 

@@ -46,13 +46,13 @@ pub fn receive<S: Source, K: Sink, D: Disk>(
     requires bounded { version ≤ 2 ^ 64 - 2 }
     // The store isn't broken.
     requires whole { engine.old.broken ≡ false }
-    // Store, source and sink have changed as the result says, as is told above of each end.
+    // Store, source and sink have changed as the result says, as is stated above for each end.
     ensures received { HasReceived result version root engine.old engine.new (S.rest source.old) (S.rest source.new) (K.text sink.old) (K.text sink.new) }
     // If the head isn't version 0, or has an entry, the result is `NotEmpty` with the head.
     ensures occupied { IsInUse engine.old.versions → result ≡ Received.Refused (RestoreFault.NotEmpty engine.old.versions.head) }
     // After `NotEmpty` source and sink are unchanged.
     ensures untouched { (head : ℕ) → result ≡ Received.Refused (RestoreFault.NotEmpty head) → (source.new ≡ source.old) × (sink.new ≡ sink.old) }
-    // If the store is new and the input is known and comes to a refusal, it ends with that, `ReadFault` or `Memory`.
+    // If the store is new and the input is known and results in a refusal, it ends with that, `ReadFault` or `Memory`.
     ensures refused { (input : List ℕ) (why : RestoreFault) → S.rest source.old ≡ Some input → IsNewStore engine.old.versions → restore_result engine.old.generation root input ≡ Err why → EndsUnlessStopped (Received.Refused why) result }
     // If the store is new and the input is known and restores entries, nothing is refused.
     ensures accepted { (input : List ℕ) (es : Entries) (why : RestoreFault) → S.rest source.old ≡ Some input → IsNewStore engine.old.versions → restore_result engine.old.generation root input ≡ Ok es → result ≡ Received.Refused why → ⊥ }

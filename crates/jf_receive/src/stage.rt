@@ -21,9 +21,9 @@ pub struct Begun {
 /// How far the blocks are read.
 #[derive(Debug, Drop)]
 pub enum Stage {
-    /// Every block that was begun is whole and accepted.
+    /// Every block that was started is whole and accepted.
     Between,
-    /// A block is begun.
+    /// A block has started.
     Block(Begun),
     /// A line was refused, and so are all that follow.
     Refused(BlockFault),

@@ -1,4 +1,4 @@
--- What the tests on a floor say: it is begun as it is listed, or the checkpoint isn't sound.
+-- What the tests on a floor say: it is started as it is listed, or the checkpoint isn't sound.
 use Rattle.std.specs.Prelude.{slice_index_or, bytes_eq, not}
 use Rattle.std.proofs.lemmas.Slice.Eq.{bytes_eq-Decides}
 use Rattle.std.proofs.Common.{◌≡◌, ℕ, zero, suc, ◌+◌, ◌-◌, ◌<◌, ◌≤◌, ◌^◌, Bool, true, false, List, [], ◌∷◌, map, filter, length, take, drop, reverse, get_or, Contains, refl, sym, ap, ◌∙◌, subst, arith, inl, inr, true≢false, drop_at, take-suc}

@@ -1,4 +1,4 @@
--- What is told of a record that isn't taken.
+-- What is reported of a record that isn't taken.
 use Rattle.std.specs.Prelude.{ℕ}
 use Rattle.jf_payload.specs.declared.fault.RecordFault.{RecordFault}
 use Rattle.jf_payload.specs.declared.fault.RecordFault.TheVariants as record_fault

@@ -1,4 +1,4 @@
-// The next record of a journal is decoded and taken, or its offset is told.
+// The next record of a journal is decoded and taken, or its offset is returned.
 ghost use Rattle.std.specs.Prelude.{◌≡◌, ℕ, Err, OnOk};
 ghost use Rattle.jf_frame.specs.Framed.{lent_as};
 ghost use Rattle.jf_standing.specs.Standing.{Standing};

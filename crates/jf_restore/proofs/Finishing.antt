@@ -1,4 +1,4 @@
--- What an import makes of a store, from what the step makes of it.
+-- The effect of an import on a store, from the effect of the step on it.
 use Rattle.std.proofs.Common.{◌≡◌, ◌∙◌, ◌+◌, ℕ, ap, Result, Ok, Err}
 use Rattle.std.specs.Prelude.{OnOk, MatchResult}
 use Rattle.std.specs.FinMap as fin
@@ -24,7 +24,7 @@ module _ (version : ℕ) (es : Entries) (old new : Engine) where
   can_import : CanStep (Imports version es) old → CanImport old es
   can_import can = record { sound = can.0; unused = can.1.0; room = can.1.1; few = can.1.2 }
 
-  -- what an import makes of a store
+  -- the effect of an import on a store
   pub import_makes : (r : Result (Unit {0}) EngineFault) → HasEnded (Imports version es) old new r → OnOk r (OnHistories old.history new.history (λ h g. HoldImported (reads g) (old.generation + 1) version es))
       → MatchResult r (λ _. HasImported version es old new) (IsNotImported version es old new)
   import_makes (Ok u) s held = record {

@@ -1,4 +1,4 @@
--- What finishing a restore makes of a store.
+-- The effect of finishing a restore on a store.
 use Rattle.std.specs.Prelude.{◌≡◌, ◌≢◌, ℕ, ◌+◌, ◌-◌, ◌^◌, ◌<◌, ◌≤◌, length, None, true, false}
 use Rattle.jf_path.specs.Faults.{HasCause}
 use Rattle.jf_hash.specs.Maps.{map_of_entries}

@@ -37,11 +37,11 @@ IsUnhashed (refused.NotWhole found) = ⊥
 IsUnhashed (refused.Engine why) = ⊥
 IsUnhashed refused.Memory = ⊥
 
--- there are `count` entries, and they come to the announced root
+-- there are `count` entries, and they result in the announced root
 abbrev pub IsWhole : RestoreValue → ℕ → Type 0
 IsWhole r count = (count ≡ length r.entries) × (part_root 0 r.entries ≡ r.root)
 
--- the entries come to another root
+-- the entries result in another root
 abbrev pub IsNotWhole : RestoreValue → RestoreRefused → Type 0
 IsNotWhole r (refused.Chunk why) = ⊥
 IsNotWhole r (refused.NotWhole found) = (found ≡ part_root 0 r.entries) × (found ≢ r.root)

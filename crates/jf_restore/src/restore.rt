@@ -63,7 +63,7 @@ impl Restore {
     pub fn add(&mut self, fresh: &Pairs, proof: &RangeProof) -> Result<(), RestoreRefused>
         // Each value has at most 4,096 bytes; `are_short` is the test.
         requires { HaveShortValues fresh.now }
-        // The entries come after those added before; or the first failing check is told, and the restore is unchanged.
+        // The entries come after those added before; or the first failing check is returned, and the restore is unchanged.
         ensures { MatchResult result (λ _. IsAdded self.old self.new fresh.now proof.now) (λ why. IsNotAdded self.old self.new fresh.now proof.now why) }
     {
         self.add_uncounted::<Brand>(fresh, proof, Blank::new(1))
@@ -79,7 +79,7 @@ impl Restore {
     ) -> Result<(), RestoreRefused>
         // Each value has at most 4,096 bytes; `are_short` is the test.
         requires { HaveShortValues fresh.now }
-        // The entries come after those added before; or the first failing check is told, and the restore is unchanged.
+        // The entries come after those added before; or the first failing check is returned, and the restore is unchanged.
         ensures added { MatchResult result (λ _. IsAdded self.old self.new fresh.now proof.now) (λ why. IsNotAdded self.old self.new fresh.now proof.now why) }
         // At most 257 hashes are computed for each new entry, and 257 more.
         ensures cost { steps.new ≤ steps.old + 257 * (length fresh.now + 1) }
@@ -169,7 +169,7 @@ impl Restore {
         alloc: Global,
         engine: &mut Engine<D>,
     ) -> Result<u64, RestoreRefused>
-        // The store holds exactly that version, or the reason that is told holds; a crash leaves the one or the other.
+        // The store holds exactly that version, or the reason that is returned holds; a crash leaves the one or the other.
         ensures { MatchResult result (IsFinished self engine.old engine.new) (IsNotFinished self engine.old engine.new) }
     {
         let count = self.whole()?;

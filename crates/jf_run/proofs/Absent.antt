@@ -99,7 +99,7 @@ module _ (c : ProgramCall) (version n : ℕ) (announced : List ℕ) (all_sound :
             (λ other h told empty. let d = found.disk h told in record { start = start; left = (d.0, d.1, d.2.1); ended = inl absent }));
       }
 
--- a mode for which files without a record may not be begun found no store
+-- a mode for which files without a record may not be initialised found no store
 pub absent_keeps : (c : ProgramCall) (m : Mode) → FilesStandForSound → DamageIsNoVersions → c.start ≡ None → c.entries ≡ [] → c.asks ≡ Some m → (MayBegin m → ⊥) → c.status ≡ status.Elsewhere 0 (root fin.empty)
     → HasFoundNoStore c.before.disk c.after.disk → c.after ≡ with_disk c.after.disk c.before → KeepsPromises c
 absent_keeps c (mode.Resume version announced n) all_sound none_stand start none asks unlike is found untouched = resume_absent_keeps c version n announced all_sound none_stand start none asks unlike is found untouched

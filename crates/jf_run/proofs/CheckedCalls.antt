@@ -72,7 +72,7 @@ pub told_silence : (r : How) → (status_of_check r ≡ status.DiskFault) ⊎ (s
 told_silence r (inl e) = inl (told_disk r e)
 told_silence r (inr e) = inr (told_memory r e)
 
--- without a fault of sink and disk the files are told of, or memory runs out
+-- without a fault of sink and disk the files are reported, or memory runs out
 pub told_well : (r : How) (s : Status) → s ≡ status_of_check r → (s ≡ status.WriteFault → ⊥) → (s ≡ status.DiskFault → ⊥) → IsDoneOrMemory s ⊎ ((side : Side) × (at : ℕ) × (s ≡ status.Damaged side at))
 told_well (Ok (store_check.Damaged side at)) s is w d = inr (side, at, is)
 told_well (Ok (store_check.Sound live kept checkpoint)) s is w d = inl (inl is)

@@ -94,7 +94,7 @@ begun_kept e fresh = record {
   idle = λ untried none. refl;
 }
 
--- what entries and an attempt came to over such a store
+-- the result of entries and an attempt over such a store
 pub record KeepsLandings (old new : Engine) (es : List Entry) (attempt : Option Entry) : Type 0 where
   pub legal : AreLegal (state_when_opened old.versions old.generation) es
   pub tried : IfSome attempt (IsLegal (replay (state_when_opened old.versions old.generation) es))

@@ -19,7 +19,7 @@ use Rattle.jf_run.proofs.Opened.{GoesOnDisk, TellsEnd, opened_keeps, opened_stan
 use Rattle.jf_run.proofs.RunsLaws.{nothing_kept}
 
 -- ---- the files
--- after an opening that no call on the disk follows they stand for the versions from before it
+-- after an opening that no call on the disk follows they represent the versions from before it
 held : (c : ProgramCall) (head : ℕ) (s : State) → IsBegun s c.before.disk c.after.disk head → StaysHeld c.before.disk.history c.after.disk.history s.all s.generation
 held c head s begun = record {
   settled = begun.opening.settled;

@@ -27,7 +27,7 @@ use Rattle.jf_run.proofs.LinesDone.{run_keeps}
 use Rattle.jf_run.proofs.ReadOnly.{read_only_keeps}
 
 -- ---- the files
--- files of a store that doesn't have a root held a record, if files without one aren't begun for a mode that announces it
+-- files of a store that doesn't have a root held a record, if files without one aren't initialised for a mode announcing it
 held_record : (files : Files) (v : Versions) (version : ℕ) (announced : List ℕ) → FilesStandForOne → StandsFor files v → (IsRootAt v version announced → ⊥) → ((IsRootAt new_store version announced → ⊥) → HoldsLive files [] → ⊥) → HoldsLive files [] → ⊥
 held_record files v version announced one stands other unless none =
     unless (λ there. other (subst (λ (w : Versions). IsRootAt w version announced) (one files new_store v (none_is_new files none) stands) there)) none
@@ -46,7 +46,7 @@ opening_leaves before after v n o some h told =
 -- ---- the call
 module _ (c : ProgramCall) (version n head : ℕ) (announced : List ℕ) (s : State) (none_stand : DamageIsNoVersions) (asks : c.asks ≡ Some (mode.Resume version announced n)) (start : c.start ≡ Some head)
     (holds : HoldsFor (mode.Resume version announced n) c.before.disk) where
-  -- the store was opened, so its files held a record, or were begun
+  -- the store was opened, so its files held a record, or were initialised
   never_absent : (IsRootAt new_store version announced → ⊥) → ForSome c.before.disk.history (λ h. HoldsLive (reads h) [] → FindsNoStore c h)
   never_absent unlike h told none = absurd (holds unlike h told none)
 

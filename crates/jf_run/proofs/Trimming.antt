@@ -78,7 +78,7 @@ no_read how s (inr (inl is)) e = absurd (cc)
 no_read how s (inr (inr (inl is))) e = absurd (cc)
 no_read how s (inr (inr (inr w))) e = refused_read (of_pair w.0) (sym w.2 ∙ e)
 
--- what was told of what was trimmed, and of the faults of the sink
+-- what was reported of what was trimmed, and of the faults of the sink
 pub record IsTold (how : How) (s : Status) (text text' : Option (List ℕ)) (faults faults' : ℕ) : Type 0 where
   pub told : TellsTrimmed how s text text'
   pub silent : (s ≡ status.Done → ⊥) → (s ≡ status.WriteFault → ⊥) → faults' ≡ faults
@@ -100,14 +100,14 @@ line_told t s text text' faults faults' told silent write counts = record { told
 pub untrimmed_told : (why : PairFault) (text : Option (List ℕ)) (faults : ℕ) → IsTold (Err why) (status_of_refusal (of_pair why)) text text faults faults
 untrimmed_told why text faults = record { told = (refl, refl); silent = λ done write. refl; write = λ e. absurd (refused_write (of_pair why) e); counts = le_refl faults }
 
--- a fault of the disk is told only if a call on it failed
+-- a fault of the disk is reported only if a call on it failed
 fault_told : (how : How) (s : Status) → EndsSo how s → s ≡ status.DiskFault → how ≡ Err pair_fault.DiskFault
 fault_told how s (inl is) e = absurd (cc)
 fault_told how s (inr (inl is)) e = absurd (cc)
 fault_told how s (inr (inr (inl is))) e = absurd (cc)
 fault_told how s (inr (inr (inr w))) e = w.1 ∙ ap (λ x. Err x) (of_pair_fault w.0 (refused_disk (of_pair w.0) (sym w.2 ∙ e)))
 
--- damage is told only where it was found
+-- damage is reported only where it was found
 found_damage : (how : How) (s : Status) → EndsSo how s → (side : Side) (at : ℕ) → s ≡ status.Damaged side at → how ≡ Err (pair_fault.Damaged side at)
 found_damage how s (inl is) side at e = absurd (cc)
 found_damage how s (inr (inl is)) side at e = absurd (cc)
@@ -124,7 +124,7 @@ ended_well how s (inr (inr (inr (pair_fault.Damaged side at, e, is)))) w d n = a
 ended_well how s (inr (inr (inr (pair_fault.Memory, e, is)))) w d n = inr is
 
 -- ---- the files
--- files that stand for what others stood for, in their generation, stand for what no entries make of it
+-- files that represent what others represented, in their generation, represent the result of no entries for it
 stands-same : (h g : History) (v : Versions) (history : Option History) → IsVersions v → history ≡ Some g → StandsFor (reads g) v → generation (reads g) ≡ generation (reads h) → StandsForEntries history v (generation (reads h)) []
 unfolding replay
 stands-same h g v history sound told stands same = record {

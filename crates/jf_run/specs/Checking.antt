@@ -12,10 +12,10 @@ use Rattle.jf_run.specs.Statuses.{status_of_check}
 use Rattle.jf_run.specs.declared.status.Status.TheVariants as status
 
 -- a call that wrote what the files of the disk show, as far as the status says, and has no entries. The lines are those of the bytes that a
--- read gave before the call, and the status is that of what both files stand for (`told`, `status_is`). At most four calls were made on the
--- disk, and its history gained only states that are the same as the last one (`moments`, `idle`); none of them failed, unless the status says
--- so (`calm`). No input was read. If the disk failed or memory ran out, nothing was written (`silent`). If sink and disk didn't fail, the
--- files were told of, sound or damaged, or memory ran out (`complete`)
+-- read gave before the call; the status is that of what both files represent (`told`, `status_is`). At most four calls were
+-- made on the disk, and its history gained only states that are the same as the last one (`moments`, `idle`); none of them
+-- failed, unless the status says so (`calm`). No input was read. If the disk failed or memory ran out, nothing was written
+-- (`silent`). If sink and disk didn't fail, the files were reported, sound or damaged, or memory ran out (`complete`)
 pub record IsCheckedCall (c : ProgramCall) : Type 0 where
   pub start : c.start ≡ None
   pub entries : c.entries ≡ []

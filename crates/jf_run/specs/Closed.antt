@@ -15,9 +15,9 @@ use Rattle.jf_run.specs.Statuses.{is_disk_fault, may_end_unopened}
 use Rattle.jf_run.specs.declared.status.Status.TheVariants as status
 
 -- a call that opened no store. It has no entries, and the files are unchanged (`unchanged`), except that a disk that failed may have
--- begun files without a record. They stand for what they stood for; on a calm disk so does what a crash at any moment leaves. Without
--- a fault of a device over sound files only lack of memory keeps a mode from opening the store (`complete`), unless it was to resume one
--- and there is none
+-- initialised files without a record. They represent what they represented; on a calm disk so does what a crash at any time
+-- leaves. Without a fault of a device over sound files only lack of memory keeps a mode from opening the store (`complete`),
+-- unless it was to resume one and there is none
 pub record IsClosedCall (c : ProgramCall) : Type 0 where
   pub ending : IsIdleWithoutStore c.asks → IsTrue (may_end_unopened c.status) ⊎ IsAbsentCall c
   pub entries : c.entries ≡ []

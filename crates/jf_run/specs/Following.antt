@@ -32,9 +32,9 @@ TriesFollowing (followed.Refused why) old new es rest rest' text text' came atte
 -- a call that opened the store, with this newest version, and followed the landing blocks of its input: how that ended, which the
 -- status tells, what was read, written and landed (`old` and `new` are what the store showed when it was open and in the end). Its
 -- entries are the landings made, and lead to the versions in the end. What a crash leaves since the opening is said of the entries
--- (`kept`); on a calm disk it holds of any moment of the call. Unless the disk failed, the files stand for what the entries make of the
--- versions found (`stands`). A refusal is the first one of the whole input, and no other input is refused (`decided`). If no device
--- failed, all was done, memory ran out or a line or a block was refused (`complete`)
+-- (`kept`); on a calm disk it holds of any moment of the call. Unless the disk failed, the files represent the result of the
+-- entries for the versions found (`stands`). A refusal is the first one of the whole input, and no other input is refused
+-- (`decided`). If no device failed, all was done, memory ran out or a line or a block was refused (`complete`)
 pub record IsFollowedCall (c : ProgramCall) (head : ℕ) : Type 0 where
   pub old : Engine
   pub new : Engine

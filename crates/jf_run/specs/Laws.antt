@@ -33,8 +33,8 @@ LedCallsAreFollowed = (lead follow : ProgramCall) (lead_head follow_head : ℕ) 
 abbrev pub ReadsAs : Option History → Versions → Type 0
 ReadsAs history v = (h : History) × (history ≡ Some h) × StandsFor (reads h) v
 
--- the same of files: if those of both stood for the same versions, the follower's then stand for all that the leader's entries made of
--- these, pruned or not; the leader's own, unless its disk failed, for those of them from its floor on
+-- the same of files: if those of both represented the same versions, the follower's then represent all that the leader's
+-- entries led to from these, pruned or not; the leader's own, unless its disk failed, for those of them from its floor on
 abbrev pub LedFilesAreFollowed : Type 0
 LedFilesAreFollowed = (lead follow : ProgramCall) (lead_head follow_head : ℕ) (v : Versions) (led : IsLedCall lead lead_head) → IsFollowedCall follow follow_head → TakesWholeText lead follow lead_head led
     → ReadsAs lead.before.disk.history v → ReadsAs follow.before.disk.history v

@@ -12,8 +12,8 @@ use Rattle.jf_run.specs.Stops.{IsSafeSince}
 
 -- a call that opened the store, with this newest version and in this state, and did these lines over it as its only session. What a
 -- crash leaves since the opening is said of the lines; on a calm disk it holds of any moment of the call. Unless the disk failed, the
--- files stand for what the entries make of the versions found (`stands`); if no device failed, all was done or memory ran out
--- (`complete`)
+-- files represent the result of the entries for the versions found (`stands`); if no device failed, all was done or memory
+-- ran out (`complete`)
 pub record IsLinesCall (c : ProgramCall) (head : ℕ) (s : State) (attempt : Option Entry) (done : List (List ℕ)) : Type 0 where
   pub disk : DiskView
   pub begun : IsBegun s c.before.disk disk head

@@ -20,12 +20,12 @@ use Rattle.jf_run.specs.declared.status.Status.TheVariants as status
 abbrev pub IsRootAt : Versions → ℕ → List ℕ → Type 0
 IsRootAt v version announced = (v.base ≤ version) × (version ≤ v.head) × (root_of v version ≡ announced)
 
--- files without a record may be begun for a mode: for `resume` only if a new store has the announced root
+-- files without a record may be initialised for a mode: for `resume` only if a new store has the announced root
 abbrev pub MayBegin : Mode → Type 0
 MayBegin (mode.Resume version announced workers) = IsRootAt new_store version announced
 MayBegin m = Unit {0}
 
--- ---- over files that hold a record, or may be begun
+-- ---- over files that hold a record, or may be initialised
 -- a call that opened the store, with this newest version and in this state, and found that its recorded root of a version isn't the
 -- announced one, or that the version isn't from base to head. It did nothing (`read_only`), and ended with the newest version and its
 -- root. No call was made on source or sink (`untouched`). The files held a record (`held`), and are unchanged (`unchanged`)
@@ -72,6 +72,6 @@ pub record IsResumedCall (c : ProgramCall) (version : ℕ) (announced : List ℕ
   pub opened : IfSome c.start (IsResumedOver c version announced)
   pub absent : (IsRootAt new_store version announced → ⊥) → ForSome c.before.disk.history (λ h. HoldsLive (reads h) [] → FindsNoStore c h)
 
--- what the opening of a store owes to a mode for which files without a record may not be begun: they held one
+-- what the opening of a store owes to a mode for which files without a record may not be initialised: they held one
 abbrev pub HoldsFor : Mode → DiskView → Type 0
 HoldsFor m disk = (MayBegin m → ⊥) → ForSome disk.history (λ h. HoldsLive (reads h) [] → ⊥)

@@ -42,8 +42,8 @@ TellsTrimmed (Ok t) s text text' = ⊥
 TellsTrimmed (Err why) s text text' = (s ≡ status_of_refusal (of_pair why)) × (text' ≡ text)
 
 -- a call that opened the store, with this newest version and in this state, and was to trim its files. Whatever the end, a fault of the
--- disk too, these stand for the versions from before the call (`files`, `stands`), the side that was live when the store was open has its
--- bytes (`live`), and a crash at any moment since leaves what it could have left then, or files that stand for these versions (`images`);
+-- disk too, these represent the versions from before the call (`files`, `stands`), the side that was live when the store was open has its
+-- bytes (`live`), and a crash at any moment since leaves what it could have left then, or files that represent these versions (`images`);
 -- on a calm disk it leaves no others in the whole call. If it trimmed (`trimmed`), the side that wasn't live is its closed gate alone, the
 -- line tells by how many bytes it is shorter (`told`), and no call on the disk failed (`calm`). If it didn't, and no call on the disk failed,
 -- nothing changed since the store was open (`unchanged`). There are no entries, and no input was read. The sink failed only if it was to

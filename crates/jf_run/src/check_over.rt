@@ -1,4 +1,4 @@
-// The mode `check`: what the two files of a disk show is told, without a store being opened over them.
+// The mode `check`: what the two files of a disk show is written, without a store being opened over them.
 ghost use Rattle.std.specs.Prelude.{◌≡◌, ◌≢◌, ℕ, List, Option, Some, None};
 ghost use Rattle.jf_words.specs.declared.modes.Mode.TheVariants as mode;
 ghost use Rattle.jf_run.specs.Calls.{devices, disk_of, program_call};

@@ -17,7 +17,7 @@ use jf_words::Mode;
 use std::alloc::Global;
 use std::thread::Threads;
 
-/// Whether files without a record may be begun for a mode.
+/// Whether files without a record may be initialised for a mode.
 pub(crate) fn may_begin(mode: &Mode) -> bool
     ensures { IsTrue result ↔ MayBegin mode.now }
 {

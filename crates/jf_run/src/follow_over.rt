@@ -20,8 +20,8 @@ use jf_lead::landing_blocks_are_sound;
 use std::alloc::Global;
 use std::thread::Threads;
 
-/// Follows the landing blocks of a source by an open store, and writes into a sink the line that tells where the store has
-/// come to. Nothing is written before the end of the source.
+/// Follows the landing blocks of a source by an open store, and writes into a sink the line that gives the head of the
+/// store and its root. Nothing is written before the end of the source.
 pub(crate) fn follow_over<S: Source, K: Sink, D: Disk, H: Threads + Sync, G: Gate>(
     rt: &H,
     alloc: Global,

@@ -12,10 +12,10 @@ pub fn led_calls_are_followed()
     inputs_agree();
 }
 
-/// Files that stood for what a leader's stood for, over which the whole text of its landings was followed, stand for all
-/// versions that the leader made of these.
+/// Files that represented what a leader's represented, over which the whole text of its landings was followed, represent
+/// all versions that the leader made from these.
 pub fn led_files_are_followed()
-    // The files of whoever follows all that a leader wrote stand for the leader's versions.
+    // The files of whoever follows all that a leader wrote represent the leader's versions.
     ensures { LedFilesAreFollowed }
 {
     inputs_agree();

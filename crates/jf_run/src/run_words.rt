@@ -26,18 +26,18 @@ use std::thread::Threads;
 /// - `run` opens the store on the disk, and answers the script of the source into the sink, as the only session of the
 ///   store. `--workers N`, 1 to 64, says how many threads may work at once on the pieces of a landing, also of one that
 ///   the opening reads; unless N is 1, the values of a large batch are hashed, and many lines at hand that read the head
-///   are answered, by several threads too. The gate is told of each piece of a landing that the script asks for, before
+///   are answered, by several threads too. The gate is notified of each piece of a landing that the script asks for, before
 ///   the piece begins. Neither changes the output.
 /// - `resume VERSION ROOT` opens the store, and goes on as `run` if the recorded root of the version is this one. Otherwise it
 ///   ends with `Elsewhere`, and has done nothing. It begins files without a record only if a new store has that root, as version
 ///   0 with the root of the empty map; with another one no store is opened there.
 /// - `serve` opens the store, reads the source to its end, and runs the scripts of its sessions, 1 to 16, side by side over
-///   the store (docs/FORMATS.md, "Several sessions"). `--workers N` is for landings as in `run`. The gate is told of each
-///   session before it begins, too. Once all have ended, it writes the output of each session, and then the entries.
+///   the store (docs/FORMATS.md, "Several sessions"). `--workers N` is for landings as in `run`. The gate is notified of
+///   each session before it begins, too. Once all have ended, it writes the output of each session, and then the entries.
 /// - `lead` opens the store, and runs the script of the source over it as `run` does. It writes no replies, but the landing
 ///   block of each version that it lands, as soon as the landing stands (docs/FORMATS.md, "Landing blocks").
-/// - `follow` opens the store, and lands the landing blocks of the source, each at its last line, as long as each comes to the
-///   root that is announced; then it writes where the store has come to.
+/// - `follow` opens the store, and lands the landing blocks of the source, each at its last line, as long as each yields the
+///   root that is announced; then it writes the head of the store and its root.
 /// - `generate SEED BATCHES SIZE` opens the store, and runs the script of that seed over it in the same way. It reads no
 ///   input, and writes how many replies were refusals and the last two replies.
 /// - `restore VERSION ROOT` opens a new store, and makes it hold one version, whose entries the source gives as chunk
@@ -64,10 +64,10 @@ use std::thread::Threads;
 /// (docs/PROMISES.md, "The top call"):
 ///
 /// - If a script was run over an opened store (`IsRunCall`, `IsGeneratedCall`), replies and entries are those of the
-///   lines done. After a crash at any moment the files stand for the versions after a first part of the entries that has
-///   every landing acknowledged by then; if the disk failed, they may instead stand for those after all entries and the
+///   lines done. After a crash at any moment the files represent the versions after a first part of the entries that has
+///   every landing acknowledged by then; if the disk failed, they may instead represent those after all entries and the
 ///   one that the first line without a reply asked for. On a disk that wasn't calm before the call, this holds from the
-///   opening on. If the disk didn't fail, the files stand for the versions after all entries at the end.
+///   opening on. If the disk didn't fail, the files represent the versions after all entries at the end.
 /// - If a store with an announced root was to be resumed (`IsResumedCall`), the call is such a run over a store that has that
 ///   root; or there are no entries, and the files are unchanged: they held a record (`IsElsewhere`), or they held none and no
 ///   store was opened (`IsAbsentCall`). `Elsewhere` comes exactly then.
@@ -79,19 +79,19 @@ use std::thread::Threads;
 ///   the entries are that history. The same holds of a crash, with the attempt of one session. If no session began, there
 ///   are no entries and nothing was written; `InputFull` and `ReadFault` come only then.
 /// - If a version was to be restored (`IsRestoredCall`), there are no entries, and after a crash at any moment the files
-///   stand for what they stood for or for the restored version alone: after `Done` and `WriteFault` for the restored
-///   version, and after every other end but `DiskFault` for what they stood for.
+///   represent what they represented before or the restored version alone: after `Done` and `WriteFault` the restored
+///   version, and after every other end but `DiskFault` what they represented before.
 /// - If the total of the recorded roots was to be written (`IsHistoryCall`), there are no entries, the disk shows what the
 ///   opening left, and the text is that of the versions and the number; `Outside` comes exactly if the version's
 ///   root isn't recorded.
 /// - If the names of an input were to be looked up (`IsManyCall`), there are no entries, the disk shows what the opening
 ///   left, and the text is that of the versions, the number and the input. `Outside` comes exactly if the version
 ///   isn't from the floor to the head; after it, a line that is no name or is the 10,001st is refused by its number.
-/// - If the files were to be told of (`IsCheckedCall`), the text is that of the bytes that a read of the disk gives, and the status
-///   that of what they stand for: `Done`, or `Damaged` with the first place of damage. Nothing is changed.
+/// - If the files were to be reported (`IsCheckedCall`), the text is that of the bytes that a read of the disk gives, and
+///   the status that of what they represent: `Done`, or `Damaged` with the first place of damage. Nothing is changed.
 /// - If no store was opened (`IsClosedCall`), there are no entries and the files are unchanged. One exception: a call
-///   that ends with `DiskFault` may have begun files without a record, which still stand for a new store. `resume` with a root
-///   that no new store has does not begin them either way.
+///   that ends with `DiskFault` may have initialised files without a record, which still represent a new store. `resume`
+///   with a root that no new store has does not initialise them either way.
 /// - In the mode `verify` (`IsJudgedCall`), the verdicts were written, as far as the status says; in the mode `judge`
 ///   (`IsJudgedNameCall`), what the block shows of the name.
 pub fn run_words<S: Source, K: Sink, D: Disk, H: Threads + Wait + Sync, G: Gate>(
@@ -113,7 +113,7 @@ pub fn run_words<S: Source, K: Sink, D: Disk, H: Threads + Wait + Sync, G: Gate>
     ensures unwritten { (asked_shape (mode_asked_for words.now)).reading ≡ ToItsEnd → IsTrue (is_input_fault result.status) → sink.new ≡ sink.old }
     // If the store to restore into has versions, nothing is read or written.
     ensures occupied { (asked_shape (mode_asked_for words.now)).changes ≡ ByImport → (head : ℕ) → result.status ≡ Status.Refused (RestoreFault.NotEmpty head) → (source.new ≡ source.old) × (sink.new ≡ sink.old) }
-    // A version that isn't there is told before anything is read or written.
+    // A version that isn't there is reported before anything is read or written.
     ensures outside { (asked_shape (mode_asked_for words.now)).reading ≡ ToItsEnd → (least head : ℕ) → result.status ≡ Status.Outside least head → (source.new ≡ source.old) × (sink.new ≡ sink.old) }
     // If the store isn't the one whose root was given, nothing is read or written.
     ensures elsewhere { (head : ℕ) (root : List ℕ) → result.status ≡ Status.Elsewhere head root → (source.new ≡ source.old) × (sink.new ≡ sink.old) }

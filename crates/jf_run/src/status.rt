@@ -33,16 +33,16 @@ pub enum Status {
     WriteFault,
     /// The disk failed in this call.
     DiskFault,
-    /// The files stand for no versions, and are unchanged. This is the first place of damage, in bytes from the side's
+    /// The files represent no versions, and are unchanged. This is the first place of damage, in bytes from the side's
     /// start.
     Damaged { side: Side, offset: u64 },
     /// The input of several sessions has more than 67,108,864 bytes or more than 16 sessions. No line was done.
     InputFull,
     /// Memory ran out.
     Memory,
-    /// The store or the input was refused for this reason. If a version was to be restored, none was, and the files stand
-    /// for what they stood for. If names were to be looked up, it is `Line`: this line is the first that isn't a name, or
-    /// is the 10,001st, and nothing was written.
+    /// The store or the input was refused for this reason. If a version was to be restored, none was, and the files
+    /// represent what they represented before. If names were to be looked up, it is `Line`: this line is the first that
+    /// isn't a name, or is the 10,001st, and nothing was written.
     Refused(RestoreFault),
     /// The version isn't between these two, the least and the greatest that can be asked for. For the total of the roots they
     /// are the base and the head, for names the floor and the head. Nothing was read or written.
@@ -74,7 +74,7 @@ impl Status {
     /// The status after a script's run. A disk that failed in an earlier call is `DiskFault` too; a store of one pass never
     /// ends so.
     pub fn of_end(end: End) -> Status
-        // The status that stands for this end.
+        // The status for this end.
         ensures { result ≡ status_of end }
     {
         match end {
@@ -89,7 +89,7 @@ impl Status {
     /// The status after a script was led, and whether the sink failed. A fault of the sink ends no line, so another end
     /// goes before it.
     pub fn of_led(end: End, is_cut: bool) -> Status
-        // The status that stands for this end, and for a cut of the text if the run ended well.
+        // The status for this end, and for a cut of the text if the run ended well.
         ensures { result ≡ status_of_led end is_cut }
     {
         match end {
@@ -100,7 +100,7 @@ impl Status {
 
     /// The status after an input was judged.
     pub fn of_verified(end: Verified) -> Status
-        // The status that stands for this end.
+        // The status for this end.
         ensures { result ≡ status_of_verified end }
     {
         match end {
@@ -113,7 +113,7 @@ impl Status {
 
     /// The status after a name was looked up in a reply.
     pub fn of_judged(end: Judged) -> Status
-        // The status that stands for this end.
+        // The status for this end.
         ensures { result ≡ status_of_judged end }
     {
         match end {
@@ -127,7 +127,7 @@ impl Status {
 
     /// The status after what the files show was to be told.
     pub fn of_check(told: Result<StoreCheck, Unchecked>) -> Status
-        // The status that stands for this result.
+        // The status for this result.
         ensures { result ≡ status_of_check told }
     {
         match told {
@@ -141,7 +141,7 @@ impl Status {
 
     /// The status if the store could not be opened.
     pub fn of_refusal(why: OpenFault) -> Status
-        // The status that stands for this refusal.
+        // The status for this refusal.
         ensures { result ≡ status_of_refusal why }
     {
         match why {
@@ -153,7 +153,7 @@ impl Status {
 
     /// The status after a version was to be restored.
     pub fn of_received(how: Received) -> Status
-        // The status that stands for this end.
+        // The status for this end.
         ensures { result ≡ status_of_received how }
     {
         match how {
@@ -168,7 +168,7 @@ impl Status {
 
     /// The status after the total of the recorded roots was to be written.
     pub fn of_history(written: Result<(), HistoryFault>) -> Status
-        // The status that stands for this result.
+        // The status for this result.
         ensures { result ≡ status_of_history written }
     {
         match written {
@@ -181,7 +181,7 @@ impl Status {
 
     /// The status after the names of an input were to be looked up in a version.
     pub fn of_names(answered: Result<(), NamesFault>) -> Status
-        // The status that stands for this result.
+        // The status for this result.
         ensures { result ≡ status_of_names answered }
     {
         match answered {
@@ -196,7 +196,7 @@ impl Status {
 
     /// The status after landing blocks were to be followed.
     pub fn of_followed(how: Followed) -> Status
-        // The status that stands for this end.
+        // The status for this end.
         ensures { result ≡ status_of_followed how }
     {
         match how {
@@ -211,7 +211,7 @@ impl Status {
 
     /// The status if the scripts of several sessions could not be read.
     pub fn of_input_fault(why: InputFault) -> Status
-        // The status that stands for this fault.
+        // The status for this fault.
         ensures { result ≡ status_of_input_fault why }
     {
         match why {
@@ -223,7 +223,7 @@ impl Status {
 
     /// The status after several sessions, by how they ended and by how the report on them was written.
     pub fn of_served(ends: &[End], report: Result<(), ReportFault>) -> Status
-        // The status that stands for these ends and this report.
+        // The status for these ends and this report.
         ensures { result ≡ status_of_served ends.now report }
     {
         match report {

@@ -1,4 +1,4 @@
--- The lines of a script that a session has answered so far, and what it comes to if it ends after them.
+-- The lines of a script that a session has answered so far, and its result if it ends after them.
 use Rattle.std.proofs.Common.{◌≡◌, ◌⊎◌, inl, inr, ◌≤◌, ℕ, false, Some, None, List, [], ◌∷◌, ◌++◌, length, refl, sym, ap, ◌∙◌, subst, arith, append_assoc, length-append}
 use Rattle.std.proofs.Math.Seq.{drop-append-add, take-append_seam}
 use Rattle.std.specs.Prelude.{slice_get}
@@ -113,7 +113,7 @@ module _ {store : Store} {n : ℕ} {script left : List (List ℕ)} {now : Sessio
       own = own;
     }
 
-    -- it was answered, and memory ran out before its reply was told
+    -- it was answered, and memory ran out before its reply was written
     ran_untold : (new : Session) (r : Answered) → HasReplied store.start now new line r → HasRunSession store n script end.Memory text new.pass
     ran_untold new r replied = record {
       replies = f.replies;
@@ -176,7 +176,7 @@ module _ {store : Store} {n : ℕ} {script left : List (List ℕ)} {now : Sessio
 pub begun_new : (store : Store) (pass : Pass) (now : Session) → pass ≡ new_pass store pass.number → now ≡ new_session pass → now ≡ new_session (new_pass store now.pass.number)
 begun_new store pass now new begun = begun ∙ ap new_session (new ∙ ap (λ (p : Pass). new_pass store p.number) (sym (ap (λ (s : Session). s.pass) begun)))
 
--- what it came to when its pass was handed back
+-- its result when its pass was handed back
 pub ran_over : (store : Store) (pass after : Pass) (now last : Session) (script : List (List ℕ)) (how : End) (text : List ℕ) → now ≡ new_session pass → after ≡ last.pass → HasRunSession store now.pass.number script how text last.pass → HasRunSession store pass.number script how text after
 ran_over store pass after now last script how text begun same ran =
     subst (λ (p : Pass). HasRunSession store pass.number script how text p) (sym same) (subst (λ (s : Session). HasRunSession store s.pass.number script how text last.pass) begun ran)

@@ -1,4 +1,4 @@
--- What a session came to may go to another thread as the disk of its store may.
+-- The result of a session may go to another thread as the disk of its store may.
 use denote.RattleType.{RattleType}
 use denote.Param.Send.{IsSend, sendable}
 use Rattle.std.proofs.Crossing.{crosses}

@@ -1,4 +1,4 @@
--- What sessions over a store came to once it was closed.
+-- The results of sessions over a store once it was closed.
 use Rattle.std.proofs.Common.{◌≡◌, inl, inr, ℕ, zero, suc, ◌+◌, ◌<◌, ◌≤◌, true, false, Option, Some, IfSome, List, [], ◌∷◌, ◌++◌, map, length, refl, sym, ap, ◌∙◌, subst, arith, append_assoc, append-nil, length-append}
 use mathlib.Core.Option as maybe
 use Rattle.std.specs.Prelude.{slice_get}
@@ -57,7 +57,7 @@ module _ (store : Store) (out_of_memory : List ℕ) where
 -- ---- one session
 
 module _ (store : Store) (out_of_memory : List ℕ) (n : ℕ) (s : Served) (served : IsServed store out_of_memory n s) where
-  -- unless it ran out of memory, it was told all replies that it had
+  -- unless it ran out of memory, all replies that it had were written
   told_all : ran_out_of_memory s.how ≡ false → s.replies ≡ served.had
   told_all enough = elim served.told as (λ o. s.replies ≡ served.had) [
     | inl same ↦ same

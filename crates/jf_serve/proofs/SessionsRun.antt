@@ -66,7 +66,7 @@ module _ (store : Store) (passes rest : List Pass) (pass : Pass) (scripts others
   pub rest_room : (room : ℕ) → length passes ≤ room → length rest ≤ room
   rest_room room le = let few = fewer in omega arith
 
-  -- what the others came to leaves room for the last one
+  -- the results of the others leave room for the last one
   pub room_left : (room : ℕ) (g : Gathered) → length passes ≤ room → g.room ≡ room → HaveRunSessions store 0 (map lines others) g → length g.passes < g.room
   room_left room g le same ran =
       let few = fewer in
@@ -82,7 +82,7 @@ module _ (store : Store) (passes rest : List Pass) (pass : Pass) (scripts others
   pub last_new : pass ≡ new_pass store pass.number
   last_new = last_is ∙ ap (new_pass store) (sym last_number)
 
-  -- what the others came to, and what the last one did
+  -- the results of the others, and what the last one did
   pub ran_all : (g : Gathered) (how : End) (text : List ℕ) (after : Pass) → HaveRunSessions store 0 (map lines others) g → HasRunSession store pass.number (lines script) how text after → HaveRunSessions store 0 (map lines scripts) (one_more_gathered g how text after)
   ran_all g how text after before last =
       let number : pass.number ≡ 0 + length (map lines others) = last_number ∙ sym (length-map others lines ∙ as_many) ∙ omega arith in

@@ -58,8 +58,8 @@ AreEnded h attempt n (script ∷ scripts) [] es = ⊥
 AreEnded h attempt n (script ∷ scripts) (rs ∷ rss) [] = ⊥
 AreEnded h attempt n (script ∷ scripts) (rs ∷ rss) (e ∷ es) = IsEndOf h attempt n script rs e × AreEnded h attempt (n + 1) scripts rss es
 
--- each image left since a moment stands for versions of which the floor is above no version that a session has pinned after its
--- replies; of a session that ran out of memory, whose last replies may be missing, nothing is said
+-- each image left since a moment represents versions of which the floor is above no version that a session has pinned after
+-- its replies; of a session that ran out of memory, whose last replies may be missing, nothing is said
 abbrev pub ArePinsSpared : ℕ → History → ℕ → List (List Answered) → List End → Type 0
 ArePinsSpared moment h n [] es = Unit {0}
 ArePinsSpared moment h n (rs ∷ rss) [] = ⊥
@@ -72,7 +72,7 @@ IsAloneIn s scripts outputs ends entries attempt = (script : List (List ℕ)) �
 
 -- the sessions of a store that began so answered the first lines of these scripts with these outputs, and the store was then closed.
 -- One legal history explains what they were answered; if the disk failed, what was tried is the attempt of one of them; and the
--- engine is what the entries made of it. No output has more bytes than it may have
+-- engine is the result of the entries. No output has more bytes than it may have
 pub record HasServed (start : Start) (scripts : List (List (List ℕ))) (outputs : List (List ℕ)) (ends : List End) (entries : List Entry) (engine : Engine) : Type 0 where
   pub attempt : Option Entry
   pub replies : List (List Answered)

@@ -30,7 +30,7 @@ pub(crate) struct SessionRan<D: Disk> {
     pub end: End,
 }
 
-/// Runs a script over a new pass of a store, once the gate was told of the session.
+/// Runs a script over a new pass of a store, once the gate was notified of the session.
 pub(crate) fn run_session<D: Disk, H: Threads + Wait + Sync, G: Gate>(
     rt: &H,
     alloc: Global,
@@ -105,7 +105,7 @@ fn answer_line<D: Disk, H: Threads + Wait + Sync, G: Gate>(
 }
 
 /// Answers the lines of a script in turn, the first of the session, and appends their replies to an empty text. After an
-/// error the session is over, and no further line is begun.
+/// error the session is over, and no further line is started.
 fn answer_lines<D: Disk, H: Threads + Wait + Sync, G: Gate>(
     rt: &H,
     alloc: Global,

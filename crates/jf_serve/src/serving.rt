@@ -37,7 +37,7 @@ pub struct ServeRefused<D: Disk> {
 
 /// Runs one session for each script (docs/FORMATS.md, "Several sessions") over a store and its new passes, in the order of their numbers,
 /// and then closes the store. Each session but the first has a thread of its own; if no thread can be made, the caller does
-/// that session's work too. A session waits for another only if a line asks the store. The gate is told of each session
+/// that session's work too. A session waits for another only if a line asks the store. The gate is notified of each session
 /// before it begins. A landing takes at most this many workers.
 ///
 /// A session ends with `Done` if all its lines were answered, with `DiskFault` if the disk failed in what its next line asked

@@ -14,7 +14,7 @@ use Rattle.jf_standing.specs.Landing.{fresh_leaves}
 use Rattle.jf_standing.specs.Begin.{begin, IsReadFirst}
 use Rattle.jf_standing.specs.Leading.{Item, AllLead, OneFailsAt, AreRead}
 
--- a record makes of a sound standing what the function `next_standing` says
+-- the result of a record for a sound standing is what the function `next_standing` says
 abbrev pub NextIsTakes : Type 0
 NextIsTakes = (fmt : Format) (s s' : Standing) (r : Record) → IsSound fmt s → AreEntries (leaf_entries s.nodes) → IsReadRecord r → (next_standing fmt s r ≡ Some s') ↔ TakesRecord fmt s r s'
 

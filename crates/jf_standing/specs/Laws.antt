@@ -1,4 +1,4 @@
--- Laws of standings: which nodes stand in a sound one, and what landings and floors make of it.
+-- Laws of standings: which nodes stand in a sound one, and the effect of landings and floors on it.
 use Rattle.std.specs.Prelude.{ℕ, ◌≤◌, ◌≡◌, ◌+◌, ◌<◌, ◌^◌, ◌↔◌, List, length, IsTrue, map, true, if◌then◌else◌, [], ◌∷◌, ◌++◌, false}
 use Rattle.std.specs.FinMap.{entries, len}
 use Rattle.std.specs.List.{AllByRecursion}

@@ -1,4 +1,4 @@
--- The standing that a record makes of a sound one, as a function: None if what it makes isn't sound.
+-- The result of a record for a sound standing, as a function: None if that result isn't sound.
 use Rattle.std.specs.Prelude.{◌+◌, ◌^◌, Bool, ◌&&◌, nat_le, nat_lt, if◌then◌else◌, List, [], ◌∷◌, Option, Some, None, ℕ, ◌≡◌, ◌-◌, ◌<◌, ◌≤◌, IsTrue, map, length}
 use Rattle.std.specs.FinMap.{len}
 use Rattle.std.specs.List.{AllByRecursion}

@@ -17,7 +17,7 @@ use Rattle.jf_standing.specs.Taking.{GivesStanding}
 use Rattle.jf_standing.specs.Building.{nodes_by_name, checkpoint_of, rebuilt, built_standing, imported_standing, new_standing}
 use Rattle.jf_standing.specs.Next.{IsReadStanding}
 
--- what nodes stand for does not depend on their order
+-- what nodes represent does not depend on their order
 abbrev pub OrderIsFree : Type 0
 OrderIsFree = (fmt : Format) (s : Standing) (ns : List Named) → IsSound fmt s → IsPermutation s.nodes ns → IsSound fmt (with_nodes ns s) × (versions_of (with_nodes ns s) ≡ versions_of s)
 
@@ -47,11 +47,11 @@ BuiltIsSound =
     (fmt : Format) (s : Standing) (ms : List Map) → IsSound fmt s → IsMap (map_at s.head s.nodes) → AllByRecursion (λ m. IsMap m × (len m ≤ 2 ^ 63)) ms → s.head + length ms < not_stale
     → IsSound fmt (built_standing fmt s ms) × ((built_standing fmt s ms).base ≡ s.base) × ((built_standing fmt s ms).floor ≡ s.floor) × ((built_standing fmt s ms).head ≡ s.head + length ms)
 
--- one map whose nodes are all of one version is sound, and stands for that version alone
+-- one map whose nodes are all of one version is sound, and represents that version alone
 abbrev pub ImportsAreSound : Type 0
 ImportsAreSound = (fmt : Format) (version : ℕ) (m : Map) → IsMap m → len m ≤ 2 ^ 63 → version < not_stale → IsSound fmt (imported_standing fmt version m) × (versions_of (imported_standing fmt version m) ≡ imported_versions version m)
 
--- a new store is sound, and stands for version 0 without an entry
+-- a new store is sound, and represents version 0 without an entry
 abbrev pub NewIsSound : Type 0
 NewIsSound = (fmt : Format) → IsSound fmt (new_standing fmt) × (versions_of (new_standing fmt) ≡ new_store)
 

@@ -1,4 +1,4 @@
--- Which records a standing takes, and what they make of it.
+-- Which records a standing takes, and their effect on it.
 use Rattle.std.specs.Prelude.{◌≡◌, ◌+◌, IsTrue, map, List, [], ◌∷◌, ℕ, ◌≤◌, reverse}
 use Rattle.std.specs.List.{AllByRecursion}
 use Rattle.jf_codec.specs.declared.format.Format.{Format}

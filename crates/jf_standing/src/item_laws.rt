@@ -3,7 +3,7 @@ ghost use Rattle.jf_standing.specs.ItemLaws.{NextIsTakes, KeysStay, BeginIsGives
 
 use jf_payload::spelled_is_spelling;
 
-/// A record that was read makes of a sound standing what the function `next_standing` says.
+/// The result of a record that was read, for a sound standing, is what the function `next_standing` says.
 pub fn next_is_takes()
     ensures { NextIsTakes }
 {}

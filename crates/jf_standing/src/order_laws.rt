@@ -1,7 +1,7 @@
 // Laws of the order of nodes and of checkpoints. These functions do nothing when they run.
 ghost use Rattle.jf_standing.specs.OrderLaws.{OrderIsFree, CheckpointsGive, CheckpointsAreDecided, OneStanding, BuiltIsSound, ImportsAreSound, NewIsSound, NodesAreValid, NodesAreKept};
 
-/// What nodes stand for doesn't depend on their order.
+/// What nodes represent doesn't depend on their order.
 pub fn order_is_free()
     ensures { OrderIsFree }
 {}
@@ -26,12 +26,12 @@ pub fn built_is_sound()
     ensures { BuiltIsSound }
 {}
 
-/// One map whose nodes are all of one version is sound, and stands for that version alone.
+/// One map whose nodes are all of one version is sound, and represents that version alone.
 pub fn imports_are_sound()
     ensures { ImportsAreSound }
 {}
 
-/// A new store is sound, and stands for version 0 without an entry.
+/// A new store is sound, and represents version 0 without an entry.
 pub fn new_is_sound()
     ensures { NewIsSound }
 {}

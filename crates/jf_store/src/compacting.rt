@@ -92,7 +92,7 @@ impl<D: Disk> Pass<D> {
     /// - `Last(Generation)`: the generation is 2^64 - 2.
     /// - `Memory`: memory ran out.
     /// - `DiskFault`: a call on the disk failed. The last event is then the mark of this call, and each further call
-    ///   through this store is refused. After a crash the files stand for the same versions, in the old generation or
+    ///   through this store is refused. After a crash the files represent the same versions, in the old generation or
     ///   in the new one.
     pub fn compact<H: Wait>(
         &mut self,

@@ -213,7 +213,7 @@ impl<D: Disk> Pass<D> {
     /// - `Last(Keys)`: the head's map has more than 2^62 entries.
     /// - `Memory`: memory ran out.
     /// - `DiskFault`: a call on the disk failed. The last event is then the mark of this call, and each further call
-    ///   through this store is refused. After a crash the files stand for the versions from before this landing, or
+    ///   through this store is refused. After a crash the files represent the versions from before this landing, or
     ///   from after it.
     pub fn land<H: Threads + Wait + Sync, G: Gate>(
         &mut self,
@@ -226,7 +226,7 @@ impl<D: Disk> Pass<D> {
     ) -> Result<Landed, StoreFault>
         // The pass is one of this store's.
         requires { IsPassOf self.old store.now }
-        // The fork and its ancestors are versions, and the last one is told.
+        // The fork and its ancestors are versions, and the last one is returned.
         ensures landed { IfOk result (HasLanded store.now.start (landing.Fork id) self.old self.new) }
         // The disk failed in it, and the mark was set; or it was refused over what the pass has seen, and did nothing.
         ensures failed { IfErr result (HasFailed store.now.start (attempt.Lands (landing.Fork id)) (land_faults id) self.old self.new) }

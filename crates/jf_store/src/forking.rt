@@ -147,7 +147,7 @@ impl<D: Disk> Pass<D> {
     ) -> Result<Forked, StoreFault>
         // The pass is one of this store's.
         requires { IsPassOf self.old store.now }
-        // The fork is live, and its number and root are told.
+        // The fork is live, and its number and root are returned.
         ensures made { IfOk result (HasMade store.now.start parent batch.now self.old self.new) }
         // It was refused over what the pass has seen, and did nothing.
         ensures refused { IfErr result (HasBeenRefused store.now.start (make_faults parent) self.old self.new) }
@@ -179,7 +179,7 @@ impl<D: Disk> Pass<D> {
     ) -> Result<u64, StoreFault>
         // The pass is one of this store's.
         requires { IsPassOf self.old store.now }
-        // The fork and those on it are gone, and their number is told.
+        // The fork and those on it are gone, and their number is returned.
         ensures dropped { IfOk result (HasDropped store.now.start id self.old self.new) }
         // It was refused over what the pass has seen, and did nothing.
         ensures refused { IfErr result (HasBeenRefused store.now.start (drop_faults id) self.old self.new) }

@@ -98,7 +98,7 @@ impl<D: Disk> Pass<D> {
         requires { IsPassOf self.old store.now }
         // The pass has seen what others did meanwhile, and did nothing itself.
         ensures sees { Sees self.old self.new }
-        // What is told is the state after all that the pass has then seen.
+        // The result is the state after all that the pass has then seen.
         ensures look { IfOk result (IsLook (state_after_events store.now.start self.new.seen)) }
         // Nothing refused it.
         ensures granted { OnOk result (first_of (look_faults store.now.start self.new.seen) ≡ None) }
@@ -169,7 +169,7 @@ impl<D: Disk> Pass<D> {
     /// - `Last(Keys)`: the head's map has more than 2^62 entries.
     /// - `Memory`: memory ran out.
     /// - `DiskFault`: a call on the disk failed. The last event is then the mark of this call, and each further call
-    ///   through this store is refused. After a crash the files stand for the versions from before or with this landing.
+    ///   through this store is refused. After a crash the files represent the versions from before or with this landing.
     pub fn commit<H: Threads + Wait + Sync, G: Gate>(
         &mut self,
         rt: &H,
@@ -181,7 +181,7 @@ impl<D: Disk> Pass<D> {
     ) -> Result<Landed, StoreFault>
         // The pass is one of this store's.
         requires { IsPassOf self.old store.now }
-        // The batch is the next version, and its number and root are told.
+        // The batch is the next version, and its number and root are returned.
         ensures landed { IfOk result (HasLanded store.now.start (landing.Direct batch.now) self.old self.new) }
         // The disk failed in it, and the mark was set; or it was refused over what the pass has seen, and did nothing.
         ensures failed { IfErr result (HasFailed store.now.start (attempt.Lands (landing.Direct batch.now)) commit_faults self.old self.new) }

@@ -144,7 +144,7 @@ impl<D: Disk> Pass<D> {
     /// - `Retired(bound)`: the bound is below the retired bound.
     /// - `Memory`: memory ran out.
     /// - `DiskFault`: a call on the disk failed. The last event is then the mark of this call, and each further call
-    ///   through this store is refused. After a crash the files stand for the versions from the old or the new floor on.
+    ///   through this store is refused. After a crash the files represent the versions from the old or the new floor on.
     pub fn prune<H: Wait>(
         &mut self,
         rt: &H,
@@ -153,7 +153,7 @@ impl<D: Disk> Pass<D> {
     ) -> Result<Pruned, StoreFault>
         // The pass is one of this store's.
         requires { IsPassOf self.old store.now }
-        // Bound and floor were raised, the floor no higher than any pin, and both are told.
+        // Bound and floor were raised, the floor no higher than any pin, and both are returned.
         ensures pruned { IfOk result (HasPruned store.now.start bound self.old self.new) }
         // The disk failed in it, and the mark was set; or it was refused over what the pass has seen, and did nothing.
         ensures failed { IfErr result (HasFailedPruning store.now.start bound self.old self.new) }

@@ -1,5 +1,5 @@
 //! The words of a line: numbers in decimal and bytes in hexadecimal, read and written. `specs/` says what each word
-//! stands for.
+//! represents.
 #![tactic(auto)]
 
 mod hexadecimal;

@@ -31,7 +31,7 @@ holds_still : (p : Pair) (rs : List Framed) (s : DiskState) (f : Files) → IsIn
 holds_still p rs s f k live (inl same) = holds_of p.side f rs k.others live (same ∙ k.held_across) k.begun k.begun_across k.older
 holds_still p rs s f k live (inr none) = holds_of p.side f rs [] live none k.begun refl (inl refl)
 
--- a crash while the side that isn't live is begun leaves the live records
+-- a crash while the side that isn't live is initialised leaves the live records
 begin_leaves : (p : Pair) (rs : List Framed) (h g : History) → IsInStep p rs h.now → StopsInBegin (opposite p.side) h g → GoesOn h g (λ f. HoldsLive f rs)
 begin_leaves p rs h g k stops =
     let P : Files → Type 0 = SameOrNone (opposite p.side) (content_on (opposite p.side) h.now).bytes in
@@ -39,7 +39,7 @@ begin_leaves p rs h g k stops =
     (λ s x f image. holds_still p rs h.now f k (held_still p.side h.now s f rs (subst (λ w. content_on w s ≡ content_on w h.now) (opposite_opposite p.side) x.1) k.quiet k.held image) (x.0 f image))
     (by_both (LeavesOnly P) (λ s. content_on (opposite (opposite p.side)) s ≡ content_on (opposite (opposite p.side)) h.now) h g stops.images stops.other)
 
--- files that hold the live records of others stand for what these stand for
+-- files that hold the live records of others represent what these represent
 stands_same : (f g : Files) (rs : List Framed) (v : Versions) → HoldsLive f rs → HoldsLive g rs → StandsFor f v → StandsFor g v
 stands_same f g rs v held held' s = record { live = rs; held = held'; leads = subst (λ xs. LeadTo xs v) (holds_one f s.live rs s.held held) s.leads }
 
@@ -53,7 +53,7 @@ kept_by_leaving h g left = record {
   images = λ v s. goes_weaker h g (λ f. IsImage h.now f) (λ f. IsImage h.now f ⊎ StandsFor f v) (λ f image. inl image) left.images;
 }
 
--- the files were read, and the side that isn't live begun, whether that succeeded or not
+-- the files were read, and the side that isn't live initialised, whether that succeeded or not
 pub kept_by_cutting : (w : Side) (rs : List Framed) (h m g : History) → IsSpareIn w rs m.now → w ≡ spare_side (reads h) → LeavesFiles h m → StopsInBegin w m g → IsImage g.now (reads g) → KeepsStore h g
 kept_by_cutting w rs h m g is spare left stops readable =
     let p = is.0 in

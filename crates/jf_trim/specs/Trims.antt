@@ -1,4 +1,4 @@
--- What trimming makes of two files: the side that isn't live is cut to its closed gate, and what they stand for stays.
+-- The effect of trimming on two files: the side that isn't live is cut to its closed gate; what they represent stays.
 use Rattle.std.specs.Prelude.{◌≡◌, ◌⊎◌, ℕ, ◌+◌, List, [], ◌∷◌, length, if◌then◌else◌, ◌==◌}
 use Rattle.jf_model.specs.Versions.{Versions}
 use Rattle.jf_disk.specs.Disk.{DiskState, Files, History, IsImage, bytes_of, reads}
@@ -34,8 +34,8 @@ pub record HasTrimmed (t : Trimmed) (old new : History) : Type 0 where
   pub nothing : t.bytes ≡ 0 → LeavesFiles old new
   pub leaves : LeavesNow new (λ f. f ≡ reads new)
 
--- the files stand for what they stood for, in their generation, and the live side has its bytes; a crash in the calls leaves what it
--- could have left before, or files that stand for the same
+-- the files still represent the same in their generation; the live side has its bytes; a crash in the calls leaves what it
+-- could have left before, or files that represent the same
 pub record KeepsStore (old new : History) : Type 0 where
   pub stands : (v : Versions) → StandsFor (reads old) v → StandsFor (reads new) v
   pub generation_is : generation (reads new) ≡ generation (reads old)

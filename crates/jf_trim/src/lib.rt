@@ -1,5 +1,5 @@
 //! Gives back the room of the side that isn't live: that side is cut down to its closed gate. Its records mean nothing, so
-//! the versions that the files stand for stay, also if a crash stops it.
+//! the versions that the files represent stay, also if a crash stops it.
 #![tactic(auto)]
 
 mod cutting;

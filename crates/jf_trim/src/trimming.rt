@@ -18,7 +18,7 @@ use std::alloc::Global;
 /// (docs/FORMATS.md, "How the files are written"). A side of at most one byte is short already, and unchanged. Both sides are
 /// synced and read first, which takes memory for the bytes of both.
 ///
-/// Whatever it returns, the files stand for the versions that they stood for, also after a crash at any moment of the call:
+/// Whatever it returns, the files still represent the same versions, also after a crash at any moment of the call:
 ///
 /// - `Damaged`: the files hold no live records. It gives the first place of damage. The files are unchanged.
 /// - `DiskFault`: a call on the disk failed. The side that isn't live has its bytes, or is cut, or anything between.

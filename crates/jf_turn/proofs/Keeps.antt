@@ -74,7 +74,7 @@ module _ {V E O : Type 0} (list : V → List E) (names : E → ℕ) (start_of : 
         (λ (t : (j ≢ id) × (get_elem? s.views j ≡ maybe.some u)). others j u t.0 (r.each j u t.1)) (at_set s.views id j w u e);
   }
 
-  -- a seat whose view is not spent: what it stands for is its own
+  -- a seat whose view is not spent: what it represents is its own
   sits_at : (s : St) (r : Rule s) (id : ℕ) (v : W) → v.stage ≢ Spent → get_elem? s.views id ≡ maybe.some v → Sit r.account id v
   sits_at s r id v here at = (r.each id v at).0 here
 
@@ -328,7 +328,7 @@ module _ {V E O : Type 0} (list : V → List E) (names : E → ℕ) (start_of : 
   pub splits : (id : ℕ) (v : W) (n : ℕ) → v.stage ≡ Idle → v.numbers ≡ n ∷ v.number ∷ [] → n ≢ v.number → Splits Rule id v (maker_left v) (seat_right v)
   splits id v n away two other s r at = splits_in s r id v n away two other at
 
-  -- a note stands for no number, so it fits whoever has the turn
+  -- a note represents no number, so it fits whoever has the turn
   note_fits : (entries : List E) (hs : Homes) (v : W) (h : Hand) → Stand entries hs (note_right v) h Idle
   note_fits entries hs v free = λ k e there has. absurd (no_others (names e) has)
   note_fits entries hs v (held_by n) = ((λ has. no_others n has), λ k e there has. absurd (no_others (names e) has))
@@ -373,7 +373,7 @@ module _ {V E O : Type 0} (list : V → List E) (names : E → ℕ) (start_of : 
   is_at_home p hs v free few all home own = (home, own)
   is_at_home p hs v (held_by n) few all less s = absurd (s.0 (all n (omega arith)))
 
-  -- at the end: the value at home stands for what the seat of all numbers has seen
+  -- at the end: the value at home represents what the seat of all numbers has seen
   pub closes : (s : St) (id : ℕ) (v : W) → Rule s → get_elem? s.views id ≡ maybe.some v → v.stage ≡ Idle → ((n : ℕ) → n < seats → HasElement v.numbers n)
       → (y : V) × (get_elem? s.homes 0 ≡ maybe.some (maybe.some (Some y))) × (list y ≡ v.seen) × (start_of y ≡ start)
   closes s id v r at away all =

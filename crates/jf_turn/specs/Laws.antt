@@ -21,7 +21,7 @@ abbrev pub IsThere : {S E O : Type 0} → State S (SeatView E O) → ℕ → Sea
 IsThere s place v = (get_elem? s.views place ≡ some v) × (v.stage ≢ Spent)
 
 module _ {V E O : Type 0} (list : V → List E) (names : E → ℕ) (start_of : V → O) where
-  -- a turn whose word is even has at home a value that stands for half as many entries and has the turn's start; no seat has the turn, and the value's list begins with all that any seat has seen, after which no entry is that seat's own
+  -- a turn whose word is even has at home a value that represents half as many entries and has the turn's start; no seat has the turn, and the value's list begins with all that any seat has seen, after which no entry is that seat's own
   abbrev pub FreeTurnHasItsValue : Type 0
   FreeTurnHasItsValue =
       (seats : ℕ) (start : O) (s : State (Option V) (SeatView E O)) → IsTurn list names start_of seats start s → slice_index s.words 0 % 2 ≡ 0
@@ -45,12 +45,12 @@ module _ {V E O : Type 0} (list : V → List E) (names : E → ℕ) (start_of : 
   SeenListsAgree = (seats : ℕ) (start : O) (s : State (Option V) (SeatView E O)) → IsTurn list names start_of seats start s
       → (i j : ℕ) (v w : SeatView E O) → IsThere s i v → IsThere s j w → StartsWith v.seen w.seen ⊎ StartsWith w.seen v.seen
 
-  -- two seats that stand for one number are the same seat
+  -- two seats that represent one number are the same seat
   abbrev pub SeatsStandApart : Type 0
   SeatsStandApart = (seats : ℕ) (start : O) (s : State (Option V) (SeatView E O)) → IsTurn list names start_of seats start s
       → (i j : ℕ) (v w : SeatView E O) (n : ℕ) → IsThere s i v → IsThere s j w → HasElement v.numbers n → HasElement w.numbers n → i ≡ j
 
-  -- the numbers that a seat stands for, and those that the entries name which it has seen, lie below the count of given numbers, which is at most the number of seats; and the seat has the turn's start
+  -- the numbers that a seat represents, and those that the entries name which it has seen, lie below the count of given numbers, which is at most the number of seats; and the seat has the turn's start
   abbrev pub NumbersWereGiven : Type 0
   NumbersWereGiven = (seats : ℕ) (start : O) (s : State (Option V) (SeatView E O)) → IsTurn list names start_of seats start s
       → (slice_index s.words 1 ≤ seats)

@@ -12,7 +12,7 @@ pub record TurnState (O : Type 0) : Type 0 where
   pub seats : ℕ
   pub start : O
 
--- the turn that it is a seat of, its own number, the numbers that it stands for, the entries that it has seen, and the list that it took, while it holds the turn
+-- the turn that it is a seat of, its own number, the numbers that it represents, the entries that it has seen, and the list that it took, while it holds the turn
 pub record SeatState (E O : Type 0) : Type 0 where
   pub turn : TableId
   pub start : Option O
@@ -41,7 +41,7 @@ module _ {E O : Type 0} where
   AreNewSeats t [] n = Unit {0}
   AreNewSeats t (s ∷ ss) n = (s ≡ new_seat t n) × AreNewSeats t ss (n + 1)
 
-  -- no entry after those that the seat has seen names a number that it stands for
+  -- no entry after those that the seat has seen names a number that it represents
   abbrev pub OthersFollow : (E → ℕ) → SeatState E O → List E → Type 0
   OthersFollow names s entries = (e : E) → HasElement (drop (length s.seen) entries) e → ¬ (HasElement s.numbers (names e))
 
@@ -57,7 +57,7 @@ module _ {E O : Type 0} where
   abbrev pub giving : SeatState E O → List E → SeatState E O
   giving s entries = record s { taken = None; seen = entries }
 
-  -- the seat after another was joined to it: it keeps its number, stands for the numbers of both, and has seen the longer list
+  -- the seat with another joined to it: it keeps its number, represents the numbers of both, and has seen the longer list
   abbrev pub joining : SeatState E O → SeatState E O → SeatState E O
   joining s other = record s { numbers = s.numbers ++ other.numbers; seen = longer s.seen other.seen }
 

@@ -1,4 +1,4 @@
--- What each kind of step tells the seat that does it, and what it makes of the seat's view.
+-- What each kind of step tells the seat that does it, and the resulting view of the seat.
 use lib.ListN.{get_elem?}
 use mathlib.Core.Option.{some}
 use Rattle.std.specs.Prelude.{[], List, ◌+◌, ◌∷◌, ℕ, Option, ◌≡◌, ◌≢◌, ◌^◌, ◌≤◌, length, Some, None, ◌<◌, false, ◌++◌}
@@ -72,11 +72,11 @@ module _ {E O : Type 0} where
   abbrev pub seat_right : SeatView E O → SeatView E O
   seat_right v = record { number = v.number; numbers = v.number ∷ []; seen = v.seen; other_seen = []; other_numbers = []; stage = Idle; start = v.start; is_maker = false; given = 0 }
 
-  -- noting: a new seat that stands for no number has seen what the seat has seen
+  -- noting: a new seat that represents no number has seen what the seat has seen
   abbrev pub note_right : SeatView E O → SeatView E O
   note_right v = record { number = 0; numbers = []; seen = v.seen; other_seen = []; other_numbers = []; stage = Idle; start = v.start; is_maker = false; given = 0 }
 
-  -- join: one seat stands for the numbers of both, and has seen the longer list
+  -- join: one seat represents the numbers of both, and has seen the longer list
   abbrev pub views_joined : SeatView E O → SeatView E O → SeatView E O
   views_joined v w = record v { numbers = v.numbers ++ w.numbers; seen = longer v.seen w.seen; other_seen = shorter v.seen w.seen; other_numbers = shorter_numbers v.seen w.seen v.numbers w.numbers }
 

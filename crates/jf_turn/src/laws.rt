@@ -25,12 +25,12 @@ pub fn seen_lists_agree<V: EntryList>()
     ensures { SeenListsAgree V.list V.names V.start }
 {}
 
-/// No two seats stand for one number.
+/// No two seats represent one number.
 pub fn seats_stand_apart<V: EntryList>()
     ensures { SeatsStandApart V.list V.names V.start }
 {}
 
-/// The numbers that seats stand for and that entries name were given, and each seat has the turn's start.
+/// The numbers that seats represent and that entries name were given, and each seat has the turn's start.
 pub fn numbers_were_given<V: EntryList>()
     // These numbers are below the count of numbers given, which is at most the turn's number of seats.
     ensures { NumbersWereGiven V.list V.names V.start }

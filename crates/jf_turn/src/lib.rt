@@ -1,4 +1,4 @@
-//! A lock round one value, whose word counts what the value stands for. `specs/Rule.antt` has the rule that holds
+//! A lock round one value, whose word counts what the value represents. `specs/Rule.antt` has the rule that holds
 //! between any two steps of any threads, and `specs/Laws.antt` what follows from it.
 #![tactic(auto)]
 

@@ -12,7 +12,7 @@ use crate::view::SeatView;
 use atomic_table::Seat as Token;
 use std::marker::Model;
 
-/// A front of a turn's list, as a seat had seen it. It stands for no number, so it can be made and learned while
+/// A front of a turn's list, as a seat had seen it. It represents no number, so it can be made and learned while
 /// another seat holds the turn.
 pub struct Note<V: EntryList> {
     token: Token<Option<V>, SeatView<V::Entry, V::Start>>,
@@ -87,7 +87,7 @@ impl<V: EntryList> Seat<V> {
     }
 
     /// Learns a note. Of what the seat has seen and the note, one begins the other, and the seat has then seen the
-    /// longer; no entry that is new to it names a number that it stands for. It waits for nobody.
+    /// longer; no entry that is new to it names a number that it represents. It waits for nobody.
     pub fn learn(&mut self, turn: &Turn<V>, note: Note<V>)
         // The seat and the note are of this turn.
         requires own { IsSeatOf self.old turn.now × IsNoteOf note turn.now }
@@ -99,7 +99,7 @@ impl<V: EntryList> Seat<V> {
         ensures begins { StartsWith self.new.seen self.old.seen }
         // What it has seen now begins with the note's entries.
         ensures note_begins { StartsWith self.new.seen note.seen }
-        // No entry after those that it had seen before names a number that it stands for.
+        // No entry after those that it had seen before names a number that it represents.
         ensures others { OthersFollow V.names self.old self.new.seen }
     {
         let seen = note.seen;

@@ -41,7 +41,7 @@ pub(crate) fn write_down<V: EntryList>(
     turn.table.shared.split_seat::<Noting>(token)
 }
 
-/// Makes one token of two, which stands for the numbers of both.
+/// Makes one token of two, which represents the numbers of both.
 pub(crate) fn join<V: EntryList>(
     turn: &Turn<V>,
     token: &mut Token<Option<V>, SeatView<V::Entry, V::Start>>,

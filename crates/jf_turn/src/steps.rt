@@ -66,7 +66,7 @@ impl<E, O> Split<SeatView<E, O>> for Noting {
     ghost right = { note_right };
 }
 
-/// A load by which one seat stands for the numbers of two.
+/// A load by which one seat represents the numbers of two.
 pub(crate) struct Both;
 
 impl<E, O> Join<SeatView<E, O>> for Both {

@@ -20,7 +20,7 @@ use std::thread::Threads;
 /// The version after `head`, with the changes applied; `hashes` has the hash of each value at the place of its change.
 /// Only the top and the nodes below which something changes are made anew; every other node is shared with `head`. A
 /// node is hashed if it is new. With more workers than one, the changes with each first nibble are a piece of work, of
-/// which the gate is told; a piece of more than 1,024 changes is cut again by the next nibble if workers are left for it.
+/// which the gate is notified; a piece of over 1,024 changes is cut again by the next nibble if workers are left for it.
 pub fn advance<H: Threads + Sync, G: Gate>(
     rt: &H,
     alloc: Global,

@@ -1,4 +1,4 @@
--- The claims that are kept stand for all accepted claims: the first of all that contradicts a claim is one of the two that are kept on its subject.
+-- The kept claims represent all accepted ones: the first of all to contradict a claim is one of the two kept on its subject.
 use Rattle.std.proofs.Common.{◌≡◌, ℕ, length, codes, Bool, true, false, cond, List, [], ◌∷◌, ◌++◌, not, ◌&&◌, Option, Some, None, refl, sym, subst, ap, ◌∙◌, nat_lt, append_assoc, append-nil}
 use Rattle.std.specs.List.{find}
 use Rattle.std.specs.Option.{is_some}
@@ -169,7 +169,7 @@ keeps_from k before [] keeps = subst (Keeps k) (sym (append-nil before)) keeps
 keeps_from k before (a ∷ claims) keeps =
     subst (Keeps (kept_from (with_claim k a) claims)) (append_assoc before (a ∷ []) claims) (keeps_from (with_claim k a) (before ++ a ∷ []) claims (keeps_more k before keeps a))
 
--- of all claims those are kept that stand for them
+-- of all claims those are kept that represent them
 pub keeps-kept_claims : (claims : List Accepted) → Keeps (kept_claims claims) claims
 keeps-kept_claims claims = keeps_from nothing_kept [] claims keeps_nothing
 

@@ -31,7 +31,7 @@ unfolding said_to_end
 said_to_end-long s line other ls long too =
     ap (λ a. a.text ++ said_to_end (record { at = s.at + 1; known = a.known; stage = a.stage }) ls) (long-alike s.at s.known s.stage line other long too)
 
--- what a line is given stands for the whole of it
+-- the part of a line that is given represents the whole of it
 pub takes-given : (s next : StreamState) (line t : List ℕ) → next ≡ after_line s (given_of line) → t ≡ text_for_line s (given_of line) → (next ≡ after_line s line) × (t ≡ text_for_line s line)
 takes-given s next line t is said_is =
     let same = given_alike (line_step s.at s.known s.stage) (long-alike s.at s.known s.stage) line in

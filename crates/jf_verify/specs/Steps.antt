@@ -1,4 +1,4 @@
--- An input that is judged line by line: what is known between two lines, and what one line makes of it.
+-- An input that is judged line by line: what is known between two lines, and the effect of one line on it.
 use Rattle.std.specs.Prelude.{ℕ, List, ◌≡◌, ◌+◌, ◌++◌, [], Option, Some, None, ◌==◌, if◌then◌else◌, ◌∷◌, ◌-◌, Result, Ok, Err}
 use Rattle.jf_hash.specs.Hashes.{K}
 use Rattle.jf_collide.specs.declared.judged.Judged.{Judged}
@@ -191,7 +191,7 @@ said_to_end s [] = end_text s.at s.stage
 said_to_end s (line ∷ ls) = text_for_line s line ++ said_to_end (after_line s line) ls
 
 -- ---- a machine that takes lines
--- what a line makes of it and adds; after a refusal nothing is known of it
+-- the effect of a line on it, and what it adds; after a refusal nothing is known of it
 abbrev pub JudgesLine : {F : Type 0} → StreamState → List ℕ → StreamState → Result (List ℕ) F → Type 0
 JudgesLine s line next (Ok text) = (next ≡ after_line s line) × (text ≡ text_for_line s line)
 JudgesLine s line next (Err why) = Unit {0}

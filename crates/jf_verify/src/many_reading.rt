@@ -1,4 +1,4 @@
-// What one line more makes of a block of many claims.
+// The effect of one line more on a block of many claims.
 ghost use Rattle.std.specs.Prelude.{◌∷◌, ◌++◌, []};
 ghost use Rattle.jf_blocks.specs.Reading.{line_read};
 ghost use Rattle.jf_many_blocks.specs.ManyReading.{named_claim_of, item_of};

@@ -1,4 +1,4 @@
-// What one line more makes of a judge, by how far the present block is read.
+// The effect of one line more on a judge, by how far the present block is read.
 ghost use Rattle.jf_blocks.specs.Reading.{line_read, named_of, claim_of};
 ghost use Rattle.jf_verify.specs.Openings.{opening_of};
 ghost use Rattle.jf_verify.specs.Steps.{IsMade, IsTaken, begins, first_step, name_turn, claim_turn, step_of_block, with_side, one_less, line_step};

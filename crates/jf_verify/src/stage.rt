@@ -17,7 +17,7 @@ pub struct Heading {
 /// How far a block is read, and what was read of it.
 #[derive(Debug, Drop)]
 pub enum Stage {
-    /// No block is begun.
+    /// No block has started.
     Between,
     /// The name comes next.
     Name(Heading),

@@ -18,7 +18,7 @@ module _ {X : Type 0} where
   map-parts es g [] h = refl
   map-parts es g (x ∷ xs) h = ap₂ (λ y ys. y ∷ ys) (ap (g x.0) (sub-under 0 x.0 es h.0.1 ∙ sym h.0.0)) (map-parts es g xs h.1)
 
-  -- the walk lists g of each path and its node's part: just what g makes of the pairs that a landing writes
+  -- the walk lists g of each path and its node's part: just the result of g for the pairs that a landing writes
   pub with_root-fresh_parts : (m m' : Map) (g : Path → Part → X) → with_root (entries m) (entries m') (λ p. g p (sub 0 p (entries m'))) ≡ map (λ (x : Path × Part). g x.0 x.1) (fresh m m')
   with_root-fresh_parts m m' g = with_root-fresh m m' (λ p. g p (sub 0 p (entries m'))) ∙ map-parts (entries m') g (fresh m m') (fresh-IsListed m m')
 

@@ -9,7 +9,7 @@ pub data Reading : Type 0 where
   InPieces : Reading
   ToItsEnd : Reading
 
--- how the store is changed: not at all, by entries, by one import, or in its files alone, which are trimmed and stand for the same
+-- how the store is changed: not at all, by entries, by one import, or in its files alone, trimmed and representing the same
 pub data Changes : Type 0 where
   NoChange : Changes
   ByEntries : Changes

@@ -71,7 +71,7 @@ module _ {store : Store} {old : Pass} {script left : List (List ℕ)} {now : Ses
   pub all_tallied : left ≡ [] → HasTallied store.start old now script kept
   all_tallied none = subst (λ (ls : List (List ℕ)). HasTallied store.start old now ls kept) (sym (f.split ∙ ap (λ (ls : List (List ℕ)). f.done ++ ls) none ∙ append-nil f.done)) f.tallied
 
-  -- memory ran out, and no line was begun after those done
+  -- memory ran out, and no line was started after those done
   pub ended_between : (text : Option (List ℕ)) → HasRunScript end.Memory store.start script old now.pass text text
   ended_between text = record {
     done = f.done;

@@ -23,7 +23,7 @@ WritesReport end.Memory script done texts text text' = text' ≡ text
 abbrev pub reply_texts : List Answered → List (List ℕ)
 reply_texts rs = map (λ r. r.text) rs
 
--- a run of a script over a pass: the lines done, with their replies, and the next line, if one was begun, are the first of the script
+-- a script's run over a pass: the lines done, with their replies, and the next, if one was started, are the script's first
 pub record HasRunScript (e : End) (start : Start) (script : List (List ℕ)) (old new : Pass) (text text' : Option (List ℕ)) : Type 0 where
   pub done : List (List ℕ)
   pub replies : List Answered

@@ -20,7 +20,7 @@ use std::sync::Wait;
 use std::thread::Threads;
 
 /// Answers all lines that a generator still gives, the first of the session, and returns what is kept of their replies.
-/// After an error the session is over, and no further line is begun.
+/// After an error the session is over, and no further line is started.
 pub(crate) fn answer_script<D: Disk, H: Threads + Wait + Sync, G: Gate>(
     rt: &H,
     alloc: Global,

@@ -1,5 +1,5 @@
-// The script whose runs are stopped, its replies, and what its files stand for after each of its changes. The values are from a
-// reference in Python that keeps whole maps, and its `hashlib`.
+// The script whose runs are stopped, its replies, and what its files represent after each of its changes. The values are
+// from a reference in Python that keeps whole maps, and its `hashlib`.
 use jf_disk::MemDisk;
 use jf_play::files::bytes_of;
 use jf_play::play::{Faults, NO_FAULTS, Played, has_ended, new_disk, play};

@@ -176,7 +176,7 @@ fn sink_of(alloc: Global, room: u64) -> Result<Box<MemSink>, Fail> {
     Ok(Box::new(alloc, sink)?)
 }
 
-// Whether two files are told of so, and are sound or not.
+// Whether two files are reported so, and are sound or not.
 fn are_shown<H: Threads + Sync>(
     rt: &H,
     alloc: Global,
@@ -205,7 +205,7 @@ fn damaged_files_are_told_of(rt: HostRuntime) -> Result<(), Fail> {
     Ok(())
 }
 
-// Whether a disk that shows two files is told of as these are.
+// Whether a disk that shows two files is reported as these are.
 fn is_told_of<H: Threads + Sync>(rt: &H, alloc: Global, row: &Row) -> Result<bool, Fail> {
     let mut sinks = (sink_of(alloc, 500)?, sink_of(alloc, 500)?);
     let of_files = check(rt, alloc, row, &mut sinks.0)?;

@@ -1,4 +1,4 @@
-//! Tests of chunk blocks as text: how they are written, what they come to when they are read line by line, and the
+//! Tests of chunk blocks as text: how they are written, the result of reading them line by line, and the
 //! replies of a run to `chunk`.
 #![tactic(auto)]
 

@@ -1,4 +1,4 @@
-// Feeding lines to `Blocks`, and what they come to.
+// Feeding lines to `Blocks`, and their result.
 use jf_blocks::{FirstLine, first_line};
 use jf_hash::Hash;
 use jf_receive::{BlockFault, Blocks, Restore};
@@ -6,7 +6,7 @@ use jf_restore::RestoreRefused;
 use std::alloc::Global;
 use std::test::Fail;
 
-/// What lines come to.
+/// The result of lines.
 #[derive(Clone, Copy, Debug, PartialEq, Eq)]
 pub(crate) enum Came {
     /// This many entries of the announced root.
@@ -39,7 +39,7 @@ pub(crate) fn taken_count(blocks: &mut Blocks, lines: &[&str]) -> usize {
     lines.len()
 }
 
-/// What the blocks come to when the lines end.
+/// The result of the blocks when the lines end.
 pub(crate) fn came_to(blocks: Blocks) -> Came {
     match blocks.end() {
         Ok(restore) => whole(&restore),

@@ -1,4 +1,4 @@
-// Texts of chunk blocks and what they come to. Keys and hashes are from outside, by Python's hashlib.
+// Texts of chunk blocks and their results. Keys and hashes are from outside, by Python's hashlib.
 use crate::reading::{Came, blocks_of, came_to, is_answered_alike, root_of, taken_count};
 use jf_receive::{BlockFault, Blocks, RangeFault};
 use std::alloc::Global;
@@ -49,7 +49,7 @@ const LAST_OF_SIX: &[&str] = &[
     "entry eae14b1bf39b39adc8946cba6356a8578a75c0a6c211ef84d3e27a0ee4c97151 =31",
 ];
 
-// A root, lines in parts, how many of them are taken, and what they come to.
+// A root, lines in parts, how many of them are taken, and their result.
 type Row = (
     &'static str,
     &'static [&'static [&'static str]],

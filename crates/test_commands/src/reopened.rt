@@ -8,7 +8,7 @@ use std::sync::Wait;
 use std::test::Fail;
 use std::thread::Threads;
 
-// Two scripts, the second over the files of the first and opened at this version, and their replies, in which letters stand for
+// Two scripts, the second over the files of the first and opened at this version, and their replies, where letters represent
 // roots as in `with_roots`. The values are from a reference in Python that keeps whole maps, and its `hashlib`.
 struct Row {
     what: &'static str,

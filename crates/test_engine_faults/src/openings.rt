@@ -18,9 +18,9 @@ const PUT_A: Step = Step::Land(&[(b'a', Some(b'1'))]);
 
 const PUT_B: Step = Step::Land(&[(b'b', Some(b'2'))]);
 
-// An opening makes six calls: a sync of each side, and its length and bytes. Files without a record are then begun: the length
-// of side A; a read of its gate, unless it is empty; a write and a sync of the gate, unless that is closed; a cut and a
-// sync, if there is more than the gate; and the four calls of a record.
+// An opening makes six calls: a sync of each side, and its length and bytes. Files without a record are then initialised:
+// the length of side A; a read of its gate, unless it is empty; a write and a sync of the gate, unless that is closed; a cut
+// and a sync, if there is more than the gate; and the four calls of a record.
 const CASES: &[Case] = &[
     (&[], &[], 13, NEW),
     (&[1], &[], 14, NEW),

@@ -45,7 +45,7 @@ const CRASHES: &[(u64, u8)] = &[(0, 0), (0, 1), (17, 0xff), (1 << 62, 0)];
 /// A source: its bytes, how many it gives a call, and the calls that fail.
 pub(crate) type Input = (&'static str, usize, &'static [u64]);
 
-/// What an input came to: the store, how it ended, how many landings were made, and whether the text is the one expected.
+/// The result of an input: the store, how it ended, how many landings were made, and whether the text is the one expected.
 #[derive(Drop)]
 pub(crate) struct Came {
     pub(crate) engine: Box<Engine<MemDisk>>,

@@ -1,4 +1,4 @@
-//! Tests of followers: what an input of landing blocks comes to over a store in memory, what a source that fails leaves, and
+//! Tests of followers: the result of an input of landing blocks over a store in memory, what a source that fails leaves, and
 //! what a disk that fails leaves.
 #![tactic(auto)]
 

@@ -1,4 +1,4 @@
-// What inputs come to. Keys and roots are by Python's `hashlib`.
+// The results of inputs. Keys and roots are by Python's `hashlib`.
 use crate::inputs::{Input, follow, has_landed};
 use jf_engine_play::roots::{EMPTY, OF_A};
 use jf_engine_play::stores::{new_store, reopened_store};

@@ -148,7 +148,7 @@ const ROWS: &[Row] = &[
     },
 ];
 
-// What the blocks come to on devices that fail so.
+// The result of the blocks on devices that fail so.
 fn followed_run<H: Threads + Wait + Sync>(
     rt: &H,
     alloc: Global,

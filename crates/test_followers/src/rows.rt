@@ -10,8 +10,8 @@ use std::test::Fail;
 use std::thread::Threads;
 
 // Runs that come before, words and an input over what they left; at which version that opens the store, how many landings it
-// makes, what is written, and what a later run says of the roots of version 1 and of the head. In the texts letters stand for
-// roots, as in `with_roots`.
+// makes, what is written, and what a later run says of the roots of version 1 and of the head. In the texts letters
+// represent roots, as in `with_roots`.
 struct Row {
     before: Runs,
     words: &'static str,

@@ -17,7 +17,7 @@ use std::thread::Threads;
 // Asks for the root of each version, and of the head.
 const READS: &[u8] = b"root v0\nroot v1\nroot v2\nroot v3\nroot head\n";
 
-// The replies by the number of the head. Letters stand for roots, as in `with_roots`.
+// The replies by the number of the head. Letters represent roots, as in `with_roots`.
 const REPLIES: &[&str] = &[
     "0 ok root E\n0 no future 0\n0 no future 0\n0 no future 0\n0 ok root E\n",
     "0 ok root E\n0 ok root R\n0 no future 1\n0 no future 1\n0 ok root R\n",

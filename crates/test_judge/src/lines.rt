@@ -1,4 +1,4 @@
-// The line that a reply comes to, and how judging it ends.
+// The line that results from a reply, and how judging it ends.
 use crate::replies::{
     A, B, C, CLAIM, HEAD, HIGH, HONEST, LEAF, LOW, NONE, ONE, SETS_ONE, TWO, VOID, VOID_LEAF,
     parts_in_a_row,
@@ -22,7 +22,7 @@ const OTHER_NAME: Judged = Judged::Refused(LookupFault::OtherName);
 
 const NO_BLOCK: Judged = Judged::Refused(LookupFault::NoBlock);
 
-// A root, a name, a reply in parts, the line that it comes to, and how judging it ends.
+// A root, a name, a reply in parts, the line that results from it, and how judging it ends.
 const REPLIES: &[(&str, &[u8], &[&str], &str, Judged)] = &[
     (TWO, b"a", HONEST, "value =31\n", Judged::Shown),
     (

@@ -1,4 +1,4 @@
-//! Tests of landing blocks as text: how they are written, and what they come to when they are read line by line.
+//! Tests of landing blocks as text: how they are written, and the result of reading them line by line.
 #![tactic(auto)]
 
 #[cfg(test)]

@@ -1,8 +1,8 @@
-// What lines of landing blocks come to.
+// The results of lines of landing blocks.
 use jf_lead::{LandingBlock, LandingFault, LandingReader};
 use std::alloc::Global;
 
-/// What lines come to: how many blocks and changes they have, the last version, and the number of the first line of the
+/// The result of lines: how many blocks and changes they have, the last version, and the number of the first line of the
 /// last block; and the line that is refused, or 0.
 #[derive(Clone, Copy, Debug, PartialEq, Eq)]
 pub(crate) struct Came {
@@ -13,7 +13,7 @@ pub(crate) struct Came {
     pub(crate) refused: u64,
 }
 
-/// What no lines come to.
+/// The result of no lines.
 pub(crate) const NOTHING: Came = Came {
     blocks: 0,
     changes: 0,
@@ -42,7 +42,7 @@ impl Came {
     }
 }
 
-/// What lines come to after others: nothing more, if one of those was refused.
+/// The result of lines after others: nothing more, if one of those was refused.
 fn outcome_of_lines(reader: &mut LandingReader, before: Came, lines: &[&str]) -> Came {
     let mut came = before;
     for line in lines {
@@ -55,7 +55,7 @@ fn outcome_of_lines(reader: &mut LandingReader, before: Came, lines: &[&str]) ->
     came
 }
 
-/// What lines come to that follow others.
+/// The result of lines that follow others.
 pub(crate) fn came_to(alloc: Global, front: &[&str], lines: &[&str]) -> Came {
     let mut reader = LandingReader::new(alloc);
     let came = outcome_of_lines(&mut reader, NOTHING, front);

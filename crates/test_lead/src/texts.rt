@@ -1,9 +1,9 @@
-// Texts of landing blocks and what they come to.
+// Texts of landing blocks and their results.
 use crate::reading::{Came, NOTHING, came_to};
 use crate::samples::{DEL_A, EMPTY, ONE, PAIR, PUT_A, PUT_A_AGAIN, PUT_B, THREE, TWO};
 use std::test::Fail;
 
-// Lines and what they come to.
+// Lines and their results.
 const WHOLE: &[(&[&str], Came)] = &[
     (&[], NOTHING),
     (

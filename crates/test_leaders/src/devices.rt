@@ -9,7 +9,7 @@ use std::sync::Wait;
 use std::test::Fail;
 use std::thread::Threads;
 
-// What a script comes to over a new disk on which these calls fail.
+// The result of a script over a new disk on which these calls fail.
 fn led_run<H: Threads + Wait + Sync>(
     rt: &H,
     alloc: Global,
@@ -128,7 +128,7 @@ struct Both {
 const FIRST_PUT: &[u64] = &[0];
 
 const BOTH: &[Both] = &[
-    // A fault of the source is told before one of the sink.
+    // A fault of the source is reported before one of the sink.
     Both {
         disk: &[],
         faults: Faults {

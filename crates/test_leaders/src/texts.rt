@@ -9,7 +9,7 @@ use std::test::Fail;
 use std::thread::Threads;
 
 // A script that is run over a new store, words and a script that are run over what it left; at which version that opens the
-// store, the blocks that are written, and how many entries are made. In the blocks letters stand for roots, as in
+// store, the blocks that are written, and how many entries are made. In the blocks letters represent roots, as in
 // `with_roots`.
 struct Row {
     before: &'static str,
@@ -124,7 +124,7 @@ const ROWS: &[Row] = &[
     },
 ];
 
-// Whether a row's script is told so.
+// Whether the blocks of a row's script are written so.
 fn is_told<H: Threads + Wait + Sync>(rt: &H, alloc: Global, row: &Row) -> Result<bool, Fail> {
     let blocks = with_roots(alloc, row.blocks)?;
     let script = row.script.as_bytes();

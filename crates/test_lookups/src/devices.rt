@@ -18,7 +18,7 @@ const REPLY: &[u8] = b"1 ok proof 0\n\
     claim =31\n\
     leaf 19d5f57c8e8b3cd760f853bb8d7900d68e10ef02674383de65a9b4d65e419b26 f254fd9353abb55f60a0942b46382c2428aa019d102cd9985275c0fb42a8dbb3\n";
 
-// What words and the reply come to over files that stand for no store, on a disk that fails in its first call.
+// The result of words and the reply over files that represent no store, on a disk that fails in its first call.
 fn judged_run<H: Threads + Wait + Sync>(
     rt: &H,
     alloc: Global,

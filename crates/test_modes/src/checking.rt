@@ -50,7 +50,7 @@ const ROWS: &[Row] = &[
     ),
 ];
 
-// What a check of two files comes to, whose calls on the disk with these numbers fail.
+// The result of a check of two files, whose calls on the disk with these numbers fail.
 fn play_check<H: Threads + Wait + Sync>(
     rt: &H,
     alloc: Global,
@@ -70,7 +70,7 @@ fn is_left(alloc: Global, disk: &MemDisk, row: &Row, calls: u64) -> Result<bool,
     Ok(same && disk.moment() == calls)
 }
 
-// Whether files are told of so, by four calls on the disk.
+// Whether files are reported so, by four calls on the disk.
 fn is_told<H: Threads + Wait + Sync>(rt: &H, alloc: Global, row: &Row) -> Result<bool, Fail> {
     let played = play_check(rt, alloc, row, &[], NO_INPUT)?;
     let ended = has_ended(&played, row.2, None, row.3.as_bytes());

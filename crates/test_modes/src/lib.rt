@@ -1,5 +1,5 @@
-//! Tests of the top call in the modes `generate`, `verify` and `check`, and of what a fault makes of `generate` and of `restore`: of the
-//! disk, of the source and of the sink.
+//! Tests of the top call in the modes `generate`, `verify` and `check`, and of the effect of a fault on `generate` and
+//! `restore`: of the disk, of the source and of the sink.
 #![tactic(auto)]
 
 #[cfg(test)]

@@ -48,7 +48,7 @@ fn a_source_that_fails_leaves_a_new_store(rt: HostRuntime) -> Result<(), Fail> {
 }
 
 // Words and their input, a call of the sink that fails, from 0, and what is written: the sink takes 7 bytes in a call. Then
-// what the files hold. In the texts letters stand for roots, as in `with_roots`.
+// what the files hold. In the texts letters represent roots, as in `with_roots`.
 struct Row {
     line: &'static str,
     input: Parts,

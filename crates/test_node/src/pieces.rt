@@ -113,7 +113,7 @@ fn a_free_gate_lets_all_work_begin(rt: HostRuntime) -> Result<(), Fail> {
 // How often a piece looks for the other before it goes on alone.
 const TURNS: u64 = 100_000_000;
 
-// Holds each of two pieces back until the other has begun too, and counts how many of them saw that.
+// Holds each of two pieces back until the other has started too, and counts how many of them saw that.
 #[derive(Drop)]
 struct Meeting {
     begun: [AtomicU64; 2],

@@ -101,7 +101,7 @@ fn on_a(alloc: Global, a: Vec<u8>) -> Result<Files, Fail> {
     Ok(Files { a, b })
 }
 
-// Whether files have this head, and the root of it is told.
+// Whether files have this head, and the root of it is reported.
 fn has_head<H: Threads + Wait + Sync>(
     rt: &H,
     alloc: Global,

@@ -1,4 +1,4 @@
-// Files that stand for versions: what they are answered, and what is written after them. The records are byte by byte, and
+// Files that represent versions: what they are answered, and what is written after them. The records are byte by byte, and
 // the replies are worked out from what they say.
 use crate::openings::{Change, Files, LANDED, LANDED_TWICE, NEW, changed_file, holds, opened_run};
 use crate::records::LANDING_IN_1;

@@ -26,7 +26,7 @@ fn head_of<H: Wait>(rt: &H, store: &Store<MemDisk>, pass: &mut Pass<MemDisk>) ->
     Some(look.head.version())
 }
 
-// Looks once the landing of version 2 has begun. Returns whether it found version 1.
+// Looks once the landing of version 2 has started. Returns whether it found version 1.
 fn look_once<H: Wait>(
     rt: &H,
     store: &Store<MemDisk>,

@@ -6,7 +6,7 @@ use std::thread::yield_now;
 // How often a thread looks for a sign of the other before it goes on without.
 const TURNS: u64 = 1_000_000;
 
-// Whether a landing has begun, and whether the other pass has looked since.
+// Whether a landing has started, and whether the other pass has looked since.
 #[derive(Drop)]
 pub(crate) struct Signals {
     begun: AtomicU64,
@@ -21,7 +21,7 @@ impl Signals {
         }
     }
 
-    // Whether a landing has begun, after a while.
+    // Whether a landing has started, after a while.
     pub(crate) fn has_begun(&self) -> bool {
         is_given(&self.begun)
     }

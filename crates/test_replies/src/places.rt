@@ -3,7 +3,7 @@ use jf_play::play::{is_answered, tells};
 use std::alloc::Global;
 use std::test::Fail;
 
-// What a script shows, its lines, and their replies, in which letters stand for roots as in `with_roots`. The values are from a
+// What a script shows, its lines, and their replies, where letters represent roots as in `with_roots`. The values are from a
 // reference in Python that keeps whole maps, and its `hashlib`.
 const ROWS: &[(&str, &str, &str)] = &[
     (

@@ -211,9 +211,9 @@ fn long_lines_are_told_and_skipped(rt: HostRuntime) -> Result<(), Fail> {
     Ok(())
 }
 
-// Lines that could be refused for more than one reason, of which the first is told: what a script shows, its lines, and their
-// replies, in which letters stand for roots as in `with_roots`. The values are from a reference in Python that keeps whole maps,
-// and its `hashlib`.
+// Lines that could be refused for several reasons, of which the first is reported: what a script shows, its lines, and their
+// replies, where letters represent roots as in `with_roots`. The values are from a reference in Python that keeps whole
+// maps, and its `hashlib`.
 const FIRST: &[(&str, &str, &str)] = &[
     (
         "a version above the head, before a place",

@@ -194,7 +194,7 @@ const UNTOUCHED: Faults = Faults {
     sink: &[0],
 };
 
-// Words and their input over a new store, and the version that they make of it.
+// Words and their input over a new store, and the version that results.
 const IN_USE: &[(&str, Parts, u64)] = &[
     ("run", &[b"commit\n"], 1),
     ("run", &[b"put 61 =31\ncommit\n"], 1),

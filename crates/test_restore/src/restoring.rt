@@ -16,7 +16,7 @@ use std::test::Fail;
 use std::thread::Threads;
 
 // Words and their input over a new store, and what they write; then a script over what they left, the version at which it
-// opens the store, and its replies. In the texts letters stand for roots, as in `with_roots`.
+// opens the store, and its replies. In the texts letters represent roots, as in `with_roots`.
 struct Row {
     line: &'static str,
     input: Parts,
@@ -100,7 +100,7 @@ const ROWS: &[Row] = &[
     },
 ];
 
-// Whether words over a new store write this text, in which letters stand for roots.
+// Whether words over a new store write this text, in which letters represent roots.
 fn is_restored(alloc: Global, played: &Played<MemDisk>, text: &str) -> Result<bool, Fail> {
     let text = with_roots(alloc, text)?;
     Ok(has_ended(played, Status::Done, Some(0), &text) && played.entries == 0)

@@ -1,5 +1,5 @@
 // The mode `resume` over stores that other words left: a run if the announced root is there, and otherwise nothing. In words
-// letters stand for roots, as in `with_roots`: E for that of the empty map, R for that of `put 61 =31`.
+// letters represent roots, as in `with_roots`: E for that of the empty map, R for that of `put 61 =31`.
 use jf_disk::{Disk, MemDisk, Side};
 use jf_hash::Hash;
 use jf_play::files::{CHECKPOINT, END, File, LANDING, LANDING_OF_NOTHING, file_bytes};

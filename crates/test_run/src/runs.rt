@@ -11,7 +11,7 @@ use std::sync::Wait;
 use std::test::Fail;
 use std::thread::Threads;
 
-// Scripts over a new store, and their replies. E and R stand for roots, as in `with_roots`.
+// Scripts over a new store, and their replies. E and R represent roots, as in `with_roots`.
 const LINES: &[(&str, &str)] = &[
     ("", ""),
     ("root head\n", "0 ok root E\n"),

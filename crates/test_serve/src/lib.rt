@@ -1,5 +1,5 @@
 //! Tests of the mode `serve` of the top call: several sessions over one store, what they write, that they run at the same time, inputs
-//! that are too large, and what a fault of the source or of the sink makes of them.
+//! that are too large, and the effect of a fault of the source or of the sink on them.
 #![tactic(auto)]
 
 #[cfg(test)]

@@ -15,8 +15,8 @@ const TURNS: u64 = 100_000_000;
 // The set of both sessions: bit n is set for session n.
 const BOTH: u64 = 0b11;
 
-// Holds each of two sessions back until the other has begun too, and counts how many of them saw that. So it counts two exactly
-// if both were in flight at once.
+// Holds each of two sessions back until the other has started too, and counts how many of them saw that. So it counts two
+// exactly if both were in flight at once.
 #[derive(Drop)]
 struct Meeting {
     begun: AtomicU64,
@@ -42,7 +42,7 @@ impl Gate for Meeting {
     }
 }
 
-// Fails unless each of two sessions saw that the other had begun.
+// Fails unless each of two sessions saw that the other had started.
 fn meet<H: Threads + Wait + Sync>(rt: &H, alloc: Global) -> Result<(), Fail> {
     let gate = Meeting {
         begun: AtomicU64::new(0),

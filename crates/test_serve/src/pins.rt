@@ -15,7 +15,7 @@ use std::thread::Threads;
 // How often session 1 looks for the landing of session 0 before it goes on.
 const TURNS: u64 = 100_000_000;
 
-// Holds session 1 back until a landing has begun.
+// Holds session 1 back until a landing has started.
 #[derive(Drop)]
 struct AfterLanding {
     begun: AtomicU64,
@@ -75,7 +75,7 @@ fn disk_of_one(alloc: Global) -> Result<Box<MemDisk>, Fail> {
     new_disk(alloc, &file, &[])
 }
 
-// Fails unless the sessions are answered so over that store, and the gate was told of a landing.
+// Fails unless the sessions are answered so over that store, and the gate was notified of a landing.
 fn is_kept<H: Threads + Wait + Sync>(rt: &H, alloc: Global) -> Result<(), Fail> {
     let gate = AfterLanding {
         begun: AtomicU64::new(0),

@@ -20,7 +20,7 @@ pub(crate) fn serve<H: Threads + Wait + Sync>(
     play(rt, alloc, disk, "serve", input, faults)
 }
 
-/// Runs `serve` over a disk and this input. The gate is told of each session and of each piece of work.
+/// Runs `serve` over a disk and this input. The gate is notified of each session and of each piece of work.
 pub(crate) fn serve_gated<H: Threads + Wait + Sync, G: Gate>(
     rt: &H,
     alloc: Global,
@@ -32,7 +32,7 @@ pub(crate) fn serve_gated<H: Threads + Wait + Sync, G: Gate>(
     play_gated(rt, alloc, disk, &words, input, gate)
 }
 
-/// An input, and the texts of which one is written: sessions may be answered in any order. Letters stand for roots, as in
+/// An input, and the texts of which one is written: sessions may be answered in any order. Letters represent roots, as in
 /// `with_roots`.
 pub(crate) type Row = (&'static str, &'static [&'static str]);
 

@@ -71,7 +71,7 @@ fn new_turn(
     Ok((turn, seats))
 }
 
-// Joins all seats into one, which stands for the numbers of all.
+// Joins all seats into one, which represents the numbers of all.
 fn gather(turn: &Turn<Marks>, mut seats: Vec<Seat<Marks>>) -> Seat<Marks>
     requires new { AreNewSeats turn.now seats.items 0 }
     requires seats { (length seats.items ≡ turn.now.seats) × (1 ≤ turn.now.seats) }

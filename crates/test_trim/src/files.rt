@@ -1,4 +1,4 @@
-// Two files byte by byte, what trimming makes of them, and what a crash in it leaves. The bytes are from outside (jf_play's
+// Two files byte by byte, the result of trimming them, and what a crash in it leaves. The bytes are from outside (jf_play's
 // files).
 use jf_disk::{Disk, MemDisk, Side};
 use jf_pair::PairFault;

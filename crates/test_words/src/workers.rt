@@ -36,7 +36,7 @@ fn script_of(alloc: Global, batches: &[Lines]) -> Result<Vec<u8>, Fail> {
 // How often a piece looks for the other before it goes on alone.
 const TURNS: u64 = 100_000_000;
 
-// Holds each of the first two pieces of a landing back until the other has begun too, and counts how often one of them saw
+// Holds each of the first two pieces of a landing back until the other has started too, and counts how often one of them saw
 // that. So a landing counts two exactly if both were in flight at once.
 #[derive(Drop)]
 struct Meeting {

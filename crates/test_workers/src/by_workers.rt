@@ -120,7 +120,7 @@ fn no_number_of_workers_changes_a_root(rt: HostRuntime) -> Result<(), Fail> {
 // The pieces of an update have the numbers below this one, and those of its lists the numbers from here on.
 pub(crate) const LISTS: u64 = 16;
 
-// Notes of which pieces of the update it is told.
+// Records which pieces of the update it is notified of.
 #[derive(Drop)]
 struct Told {
     first: AtomicU64,

@@ -16,7 +16,7 @@ const HIGH: u64 = LISTS + 0xa;
 // How often a piece looks for the other before it goes on alone.
 const TURNS: u64 = 100_000_000;
 
-// Holds each of the two pieces back until the other has begun too, and counts how many of them saw that.
+// Holds each of the two pieces back until the other has started too, and counts how many of them saw that.
 #[derive(Drop)]
 struct Meeting {
     low: AtomicU64,

@@ -1,4 +1,4 @@
--- What the records before the present place made of the first numbers, the others go on with.
+-- The others go on with the result of the records before the present place for the first numbers.
 use Rattle.std.proofs.Common.{◌≡◌, drop}
 use Rattle.jf_check.specs.Numbers.{numbers_through}
 use Rattle.jf_check.proofs.numbers.numbers_in.Given as goal
