@@ -1,4 +1,4 @@
-//! All that a caller of the store names, in one crate: a crate above it needs no other one (docs/CALLERS.md).
+//! What a caller of the store names, in one crate. What stands beside it is in docs/CALLERS.md.
 #![tactic(auto)]
 
 // keys, values, hashes, and how many threads may work
