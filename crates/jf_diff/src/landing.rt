@@ -41,7 +41,7 @@ fn are_cut(old: &Snapshot, new: &Snapshot, workers: Workers) -> bool
 
 /// The nodes that the landing of `new` over `old` wrote, and the names of those of `old` that it made stale. With more
 /// workers than one, what is listed from the children at one nibble down is a piece of work, unless the landing changed
-/// nodes below one nibble alone; of the piece of nibble n the gate is told as of piece 16 + n.
+/// nodes below one nibble alone; the gate is notified of the piece of nibble n as piece 16 + n.
 pub fn landing_lists<H: Threads + Sync, G: Gate>(
     rt: &H,
     alloc: Global,

@@ -79,7 +79,7 @@ fn put_together(
 /// The number of the first piece of the lists, for a gate. The pieces of an update have the numbers below it.
 const FIRST_PIECE: u64 = 16;
 
-/// The lists by at most this many workers. The gate is told of the piece of nibble n as of piece 16 + n.
+/// The lists by at most this many workers. The gate is notified of the piece of nibble n as piece 16 + n.
 pub(crate) fn written_wide<H: Threads + Sync, G: Gate>(
     rt: &H,
     alloc: Global,

@@ -1,4 +1,4 @@
--- Openings: the files are read and unchanged, or files without a record are begun.
+-- Openings: the files are read and unchanged, or files without a record are initialised.
 use Rattle.std.specs.Prelude.{Result, Ok, Err, IfOk, IfErr, IsErr, OnOk}
 use Rattle.std.proofs.Common.{◌≡◌, refl, sym, ◌∙◌, ap, subst, ℕ, ◌-◌, ◌≤◌, ◌^◌, List, [], ◌∷◌, ◌⊎◌, ◌↔◌, inl, inr, Option, Some, None, Bool, true, false, arith, reverse}
 use Rattle.std.proofs.Math.Nat.{eq-or-lt_of_le}
@@ -46,8 +46,8 @@ use Rattle.jf_engine.specs.declared.fault.OpenFault.TheVariants as open_fault
 use Rattle.jf_engine.proofs.Keeping.{lead_versions, holds_settled, on_same, switched_keeps}
 use Rattle.jf_engine.proofs.Records.{checkpoint_leads}
 
--- ---- what an opening makes of the files
--- files that are read stand for what they stood for
+-- ---- the effect of an opening on the files
+-- files that are read still represent the same
 pub reads_keep : (h g : History) → LeavesFiles h g → KeepsVersions h g
 reads_keep h g left = record {
   extends = goes_extends h g _ left.images;
@@ -56,7 +56,7 @@ reads_keep h g left = record {
   recorded = λ x xs held. left;
 }
 
--- files that were begun stand for a new store, as they did
+-- files that were initialised represent a new store, as before
 pub begins_keep : FilesStandForOne → (h g : History) → IsBegunOver h g → KeepsVersions h g
 begins_keep one h g b =
     let new : (v : Versions) → StandsFor (reads h) v → v ≡ new_store = λ v stands. one (reads h) v new_store stands (record { live = []; held = b.none; leads = refl }) in

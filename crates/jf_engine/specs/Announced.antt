@@ -1,4 +1,4 @@
--- What a landing makes of an engine if the root of its last version is announced.
+-- The effect of a landing on an engine if the root of its last version is announced.
 use Rattle.std.specs.Prelude.{◌≡◌, ◌≢◌, ℕ, List, Option, None, Some, IfSome, Result, MatchResult}
 use Rattle.jf_hash.specs.Maps.{Batch}
 use Rattle.jf_hash.specs.Roots.{root}
@@ -18,7 +18,7 @@ landed_root v bs = root (newest (land_all bs v))
 abbrev pub IsAnnounced : Option (List ℕ) → Versions → List Batch → Type 0
 IsAnnounced announced v bs = IfSome announced (λ a. a ≡ landed_root v bs)
 
--- the landing didn't succeed: it came to the disk with the announced root, and the disk failed; or it was refused or memory
+-- the landing didn't succeed: it reached the disk with the announced root, and the disk failed; or it was refused or memory
 -- ran out; or it leads to another root than the announced one. In the last two cases the engine is unchanged
 abbrev pub HasNotLandedRooted : Option (List ℕ) → List Batch → Engine → Engine → LandFault → Type 0
 HasNotLandedRooted announced bs old new (land_fault.Refused engine_fault.DiskFault) = HasNotStepped (Lands bs) old new engine_fault.DiskFault × IsAnnounced announced old.versions bs

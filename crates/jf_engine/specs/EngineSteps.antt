@@ -1,4 +1,4 @@
--- What a step makes of an engine: it succeeds, it is refused for the first cause that holds, or memory runs out, or the disk
+-- The effect of a step on an engine: it succeeds, it is refused for the first cause that holds, memory runs out, or the disk
 -- fails.
 use Rattle.std.specs.Prelude.{◌≡◌, ◌⊎◌, ℕ, ◌+◌, ◌-◌, ◌^◌, ◌<◌, ◌≤◌, length, true, false, None, Some, Result, MatchResult, ⊤}
 use Rattle.std.specs.FinMap as fin
@@ -54,7 +54,7 @@ abbrev pub CanRunOut : StoreStep → Engine → Type 0
 CanRunOut (Prunes floor) e = ⊥
 CanRunOut step e = CanStep step e
 
--- the step is refused for this cause, the first that holds, or memory ran out, before it comes to the disk
+-- the step is refused for this cause, the first that holds, or memory ran out, before it reaches the disk
 abbrev pub IsRefusedFor : StoreStep → Engine → EngineFault → Type 0
 IsRefusedFor step e engine_fault.Broken = e.broken ≡ true
 IsRefusedFor step e (engine_fault.Last number) = (e.broken ≡ false) × IsLast step number e
@@ -62,7 +62,7 @@ IsRefusedFor step e (engine_fault.NotEmpty head) = (e.broken ≡ false) × Finds
 IsRefusedFor step e engine_fault.DiskFault = ⊥
 IsRefusedFor step e engine_fault.Memory = CanRunOut step e
 
--- ---- what a step makes of an engine
+-- ---- the effect of a step on an engine
 -- the most calls on the disk in a step: write and sync of a record and of its gate; and before them those that empty a file.
 -- An opening is no step of an engine: none can take it, so its calls aren't counted here
 abbrev pub call_limit : StoreStep → ℕ

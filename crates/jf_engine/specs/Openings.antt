@@ -1,4 +1,4 @@
--- What an opening of two files, or its refusal, makes of them.
+-- The effect of an opening of two files, or of its refusal, on them.
 use Rattle.std.specs.Prelude.{ℕ, List, ◌≡◌, ◌≤◌, ◌⊎◌, [], ◌∷◌, Option, Some, None}
 use Rattle.std.specs.Option.{ForSome}
 use Rattle.jf_path.specs.Faults.{HasCause}
@@ -20,7 +20,7 @@ use Rattle.jf_engine.specs.declared.existing.Existing.TheVariants as existing
 use Rattle.jf_engine.specs.declared.fault.OpenFault.{OpenFault}
 use Rattle.jf_engine.specs.declared.fault.OpenFault.TheVariants as open_fault
 
--- `new` extends `old`, and the files stand for what they stood for; on a calm disk so does whatever a crash in an added state
+-- `new` extends `old`, and the files still represent the same; on a calm disk so does whatever a crash in an added state
 -- leaves; files that hold a record are unchanged
 pub record KeepsVersions (old new : History) : Type 0 where
   pub extends : ExtendsHistory old new
@@ -47,7 +47,7 @@ disk_view history moment faults = record { history = history; moment = moment; f
 abbrev pub OnHistories : Option History → Option History → (History → History → Type 0) → Type 0
 OnHistories old new P = ForSome old (λ h. (g : History) × (new ≡ Some g) × P h g)
 
--- an engine was opened on a disk: its versions are what the files stood for, in their generation, and the disk is settled on
+-- an engine was opened on a disk: its versions are what the files represented, in their generation; the disk is settled on
 -- them; the live records are those found, or a first checkpoint on side A; and on a calm disk the opening has succeeded as a
 -- step. No call failed: a fault once met isn't passed over
 pub record HasOpened (old new : DiskView) (v : Versions) (n : ℕ) : Type 0 where
@@ -61,8 +61,8 @@ pub record HasOpened (old new : DiskView) (v : Versions) (n : ℕ) : Type 0 wher
   pub moment : old.moment ≤ new.moment
   pub faults : new.faults ≡ old.faults
 
--- no engine was opened, for this reason. The files are unchanged, except that a disk that failed may have begun files without
--- a record. `Damaged` gives the first place of damage; damaged files end in that, in `DiskFault` or in `Memory`
+-- no engine was opened, for this reason. The files are unchanged, except that a disk that failed may have initialised files
+-- without a record. `Damaged` gives the first place of damage; damaged files end in that, in `DiskFault` or in `Memory`
 pub record HasRefused (old new : DiskView) (why : OpenFault) : Type 0 where
   pub disk : OnHistories old.history new.history KeepsVersions
   pub left : OnHistories old.history new.history (λ h g. LeavesFiles h g ⊎ ((why ≡ open_fault.DiskFault) × IsBegunOver h g))

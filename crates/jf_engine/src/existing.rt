@@ -1,4 +1,4 @@
-// Opening the store that files hold already: none is begun.
+// Opening the store that files hold already: none is initialised.
 ghost use Rattle.std.specs.Prelude.{◌≡◌, ℕ, IfSome, IfOk, IfErr, IsErr, false};
 ghost use Rattle.std.specs.Option.{ForSome};
 ghost use Rattle.jf_disk.specs.Disk.{reads};
@@ -12,6 +12,7 @@ use crate::fault::OpenRefused;
 use crate::opening::{Sought, seek};
 use jf_disk::Disk;
 use jf_join::Workers;
+use jf_path::Bytes;
 use std::alloc::Global;
 use std::thread::Threads;
 
@@ -30,7 +31,7 @@ impl<D: Disk> Engine<D> {
     ///
     /// A refusal hands the disk back:
     ///
-    /// - `Damaged`: the files stand for no versions. It gives the first place of damage, in bytes from the side's
+    /// - `Damaged`: the files represent no versions. It gives the first place of damage, in bytes from the side's
     ///   start.
     /// - `DiskFault`: a call on the disk failed.
     /// - `Memory`: memory ran out.
@@ -40,7 +41,7 @@ impl<D: Disk> Engine<D> {
         mut disk: D,
         workers: Workers,
     ) -> Result<Existing<D>, OpenRefused<D>>
-        // It is the store that the files stand for, or the disk is handed back since no side holds a record.
+        // It is the store that the files represent, or the disk is handed back since no side holds a record.
         ensures found { IfOk result (HasFoundExisting D.Disk (disk_view (D.history disk) (D.moment disk) (D.faults disk))) }
         // After a refusal the files are unchanged, and the refusal's reason holds.
         ensures refused { IfErr result (λ e. HasRefused (disk_view (D.history disk) (D.moment disk) (D.faults disk)) (disk_view (D.history e.disk) (D.moment e.disk) (D.faults e.disk)) e.why) }
@@ -59,6 +60,7 @@ impl<D: Disk> Engine<D> {
                 format: found.format,
                 generation: found.generation,
                 broken: false,
+                frame: Bytes::new(alloc),
             })),
             Ok(Sought::Unrecorded(_)) => Ok(Existing::Absent(disk)),
             Err(why) => Err(OpenRefused { disk, why }),

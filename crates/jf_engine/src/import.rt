@@ -37,7 +37,7 @@ impl<D: Disk> Engine<D> {
     /// - `Last(Keys)`: the store is new, its generation may grow, and more than 2^62 entries are given.
     /// - `Memory`: memory ran out.
     /// - `DiskFault`: a call on the disk failed. The store is broken and shows the versions from before. After a crash
-    ///   the files stand for these, or for the version imported.
+    ///   the files represent these, or the version imported.
     pub fn import(
         &mut self,
         alloc: Global,

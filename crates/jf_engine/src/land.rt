@@ -90,7 +90,7 @@ impl<D: Disk> Engine<D> {
     /// - `Last(Keys)`: it would not, and the head's map has more than 2^62 entries.
     /// - `Memory`: memory ran out.
     /// - `DiskFault`: a call on the disk failed. The store is broken and shows the versions from before. After a crash
-    ///   the files stand for these, or for these and all new ones.
+    ///   the files represent these, or these and all new ones.
     pub fn land_all<H: Threads + Sync, G: Gate>(
         &mut self,
         rt: &H,
@@ -159,11 +159,11 @@ impl<D: Disk> Engine<D> {
             take_back(&mut self.directory, &landings);
             return Err(LandFault::Differs(found));
         }
-        let Ok(frame) = encode_landings(alloc, &landings, self.format) else {
+        let Ok(()) = encode_landings(alloc, &mut self.frame, self.format, &landings) else {
             take_back(&mut self.directory, &landings);
             return Err(LandFault::Refused(EngineFault::Memory));
         };
-        match self.pair.append(&mut self.disk, frame.as_slice()) {
+        match self.pair.append(&mut self.disk, self.frame.as_slice()) {
             Ok(()) => {
                 know_dated(&self.disk);
                 Ok(Landed {

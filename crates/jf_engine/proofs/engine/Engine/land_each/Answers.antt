@@ -37,7 +37,7 @@ invariant_of-self-in-Ok-append g c = (
       let bs = c.args.batches.now in
       let r = landed_record (landings_of format.Two s bs) in
       let w = c.in_ok-landings.ensures in
-      let frame = subst (λ bytes. IsFrame bytes (kind_of fmt r) (record_bytes fmt r)) (sym c.as_slice.ensures) (subst (λ (cs : List Commit). IsFrame c.in-Ok.frame (kind_of fmt (landed_record cs)) (record_bytes fmt (landed_record cs))) (c.deref-2.ensures.value ∙ w.written) c.in-Ok.ensures) in
+      let frame = subst (λ bytes. IsFrame bytes (kind_of fmt r) (record_bytes fmt r)) (sym c.as_slice.ensures) (subst (λ (cs : List Commit). IsFrame c.encode_landings.new.out (kind_of fmt (landed_record cs)) (record_bytes fmt (landed_record cs))) (c.deref-2.ensures.value ∙ w.written) c.in-Ok.ensures) in
       let k = c.self.invariant.2 c.if-self.false in
       let kept = appended_keeps _ _ p c.append.new.self fmt s (all_landed format.Two s bs) c.self.inside.generation (appended fmt p.offset r) k c.in-Ok-append.ensures.calls.untold (c.in-Ok-append.ensures.rest.1 ∙ k.live) (unfailed _ c.in-Ok-append.ensures.failed.0)
       (λ rs leads. (landings_lead c.landings_follow.ensures c.formats_are_sound.ensures c.formats_group.ensures c.kept_is_spelled.ensures c.written_in_both.ensures rs fmt p.offset s bs leads c.know.ensures.read c.know.ensures.sound w.sound w.bounded.1 w.bounded.0 w.spelled).0)
@@ -62,7 +62,7 @@ returns-in-Ok-append-clause-step g c =
     let bs = c.args.batches.now in
     let r = landed_record (landings_of format.Two s bs) in
     let w = c.in_ok-landings.ensures in
-    let frame = subst (λ bytes. IsFrame bytes (kind_of fmt r) (record_bytes fmt r)) (sym c.as_slice.ensures) (subst (λ (cs : List Commit). IsFrame c.in-Ok.frame (kind_of fmt (landed_record cs)) (record_bytes fmt (landed_record cs))) (c.deref-2.ensures.value ∙ w.written) c.in-Ok.ensures) in
+    let frame = subst (λ bytes. IsFrame bytes (kind_of fmt r) (record_bytes fmt r)) (sym c.as_slice.ensures) (subst (λ (cs : List Commit). IsFrame c.encode_landings.new.out (kind_of fmt (landed_record cs)) (record_bytes fmt (landed_record cs))) (c.deref-2.ensures.value ∙ w.written) c.in-Ok.ensures) in
     let y = appended fmt p.offset r in
     subst (λ (e : Engine). e.history ≡ Some h → (x : History) × (g.D.Disk.history c.append.new.disk ≡ Some x) × Succeeds (Lands bs) h x e.versions) c.self.view_is
     (λ told.
@@ -110,7 +110,7 @@ returns-clause-step g c =
     let bs = c.args.batches.now in
     let r = landed_record (landings_of format.Two s bs) in
     let w = c.in_ok-landings.ensures in
-    let frame = subst (λ bytes. IsFrame bytes (kind_of fmt r) (record_bytes fmt r)) (sym c.as_slice.ensures) (subst (λ (cs : List Commit). IsFrame c.in-Ok.frame (kind_of fmt (landed_record cs)) (record_bytes fmt (landed_record cs))) (c.deref-2.ensures.value ∙ w.written) c.in-Ok.ensures) in
+    let frame = subst (λ bytes. IsFrame bytes (kind_of fmt r) (record_bytes fmt r)) (sym c.as_slice.ensures) (subst (λ (cs : List Commit). IsFrame c.encode_landings.new.out (kind_of fmt (landed_record cs)) (record_bytes fmt (landed_record cs))) (c.deref-2.ensures.value ∙ w.written) c.in-Ok.ensures) in
     let y = appended fmt p.offset r in
     subst (λ (e : Engine). e.history ≡ Some h → (x : History) × (g.D.Disk.history c.append.new.disk ≡ Some x) × StopsWell (Lands bs) h x e.versions) c.self.view_is
     (λ told.
