@@ -16,4 +16,4 @@ pub returns-in_err-a-clause-written : goal.returns-in_err-a-clause-written
 returns-in_err-a-clause-written g c =
     let is : c.from_residual.result ≡ Err c.in_err-a.field-0.0 = search rules in
     subst (λ (r : Result StoreCheck Unchecked). ChecksDisk r (g.D.Disk.missing c.args.disk.now) (g.D.Disk.history c.args.disk.now) (g.K.Sink.text c.args.sink.now) (g.K.Sink.text c.args.sink.now)) (sym is)
-    (unchecked_disk c.in_err-a.field-0.0 (g.D.Disk.missing c.args.disk.now) (g.D.Disk.history c.args.disk.now) (g.K.Sink.text c.args.sink.now) (λ e. c.in_err-a.ensures.unwritten (ap (λ f. Err f) e)))
+    (unchecked_disk c.in_err-a.field-0.0 (g.D.Disk.missing c.args.disk.now) (g.D.Disk.history c.args.disk.now) (g.K.Sink.text c.args.sink.now) (λ e. c.in_err-a.ensures.unstopped (ap (λ f. Err f) e)))

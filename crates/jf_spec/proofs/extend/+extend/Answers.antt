@@ -58,7 +58,7 @@ parted_node-extended_node-requires-2 g t c = λ κs within.
 pub parted_node-returns-in_err-ones-clause-cost : goal.parted_node-returns-in_err-ones-clause-cost
 parted_node-returns-in_err-ones-clause-cost g t c =
     let first = subst (λ d. IsFirstOne d c.first_one-at.result c.args.batch.now) c.depth-depth.ensures c.first_one-at.ensures in
-    let both = steps_both c.args.node.now.depth c.first_one-at.result c.args.node.now.entries c.args.batch.now c.requires.parts first c.in_ok-zeros.field-0.zeros c.in_ok-zeros.field-0.ones _ _ _ _ c.requires.depth c.requires.positive c.in_ok-zeros.ensures.zeros c.in_ok-zeros.ensures.ones c.in_ok-zeros.ensures.cost c.in_ok-zeros-2.ensures.steps c.extended_node-2.ensures.cost in
+    let both = steps_both c.args.node.now.depth c.first_one-at.result c.args.node.now.entries c.args.batch.now c.requires.parts first c.in_ok-zeros.field-0.zeros c.in_ok-zeros.field-0.ones _ _ _ _ c.requires.depth c.requires.positive c.in_ok-zeros.ensures.zeros c.in_ok-zeros.ensures.ones c.in_ok-zeros.ensures.cost c.in_ok-zeros-2.ensures.cost c.extended_node-2.ensures.cost in
     omega (arith, both)
 
 pub parted_node-join-requires-clause-zeros : goal.parted_node-join-requires-clause-zeros
@@ -84,5 +84,5 @@ parted_node-returns-clause-node g t c =
 pub parted_node-returns-clause-cost : goal.parted_node-returns-clause-cost
 parted_node-returns-clause-cost g t c =
     let first = subst (λ d. IsFirstOne d c.first_one-at.result c.args.batch.now) c.depth-depth.ensures c.first_one-at.ensures in
-    let both = steps_both c.args.node.now.depth c.first_one-at.result c.args.node.now.entries c.args.batch.now c.requires.parts first c.in_ok-zeros.field-0.zeros c.in_ok-zeros.field-0.ones _ _ _ _ c.requires.depth c.requires.positive c.in_ok-zeros.ensures.zeros c.in_ok-zeros.ensures.ones c.in_ok-zeros.ensures.cost c.in_ok-zeros-2.ensures.steps c.in_ok-ones.ensures.steps in
+    let both = steps_both c.args.node.now.depth c.first_one-at.result c.args.node.now.entries c.args.batch.now c.requires.parts first c.in_ok-zeros.field-0.zeros c.in_ok-zeros.field-0.ones _ _ _ _ c.requires.depth c.requires.positive c.in_ok-zeros.ensures.zeros c.in_ok-zeros.ensures.ones c.in_ok-zeros.ensures.cost c.in_ok-zeros-2.ensures.cost c.in_ok-ones.ensures.cost in
     omega (arith, both, c.join.ensures.cost)

@@ -33,7 +33,7 @@ returns-clause-trimmed g c = λ h told.
       y.1,
       has_trimmed (record { side = c.in_ok-side.side; bytes = c.in_ok-cut.field-0 }) r.0 h r.1 y.0 r.3 r.4 (c.in_ok-side.ensures.found h told)
           (subst (λ m. LeavesFiles h m) (told_same l.0 r.1 _ l.1 r.2) l.2) (subst (λ k. StopsInBegin c.in_ok-side.side r.1 k) (told_same s.0 y.0 _ s.1 y.1) s.2) y.2 y.3
-          (λ none. let z = c.in_ok-cut.ensures.nothing r.1 r.2 none in subst (λ k. Idles r.1 k) (told_same z.0 y.0 _ z.1 y.1) z.2),
+          (λ none. let z = c.in_ok-cut.ensures.uncut r.1 r.2 none in subst (λ k. Idles r.1 k) (told_same z.0 y.0 _ z.1 y.1) z.2),
     )
 
 pub returns-clause-kept : goal.returns-clause-kept
