@@ -2,8 +2,10 @@
 ghost use Rattle.std.specs.Prelude.{◌≡◌};
 ghost use Rattle.std.specs.Thread.{IsSync};
 ghost use Rattle.jf_store.specs.Passes.{IsPassOf};
+ghost use Rattle.test_passes.specs.Scenes.{IsScene, StaysScene};
 
 use crate::closing::{Run, goes_well};
+use crate::scene::Scene;
 use crate::steps::{pin_head, prunes_to, put, reads_pinned};
 use crate::threads::side_by_side;
 use jf_disk::MemDisk;
@@ -132,17 +134,9 @@ fn put_and_prune_often<H: Threads + Wait + Sync>(
 }
 
 // Pins in one thread and prunes in another. Returns whether all went well.
-fn pin_and_prune<H: Threads + Wait + Sync>(
-    rt: &H,
-    alloc: Global,
-    store: &Store<MemDisk>,
-    first: &mut Pass<MemDisk>,
-    second: &mut Pass<MemDisk>,
-) -> bool
-    requires first { IsPassOf first.old store.now }
-    requires second { IsPassOf second.old store.now }
-    ensures first { IsPassOf first.new store.now × (first.new.number ≡ first.old.number) }
-    ensures second { IsPassOf second.new store.now × (second.new.number ≡ second.old.number) }
+fn pin_and_prune<H: Threads + Wait + Sync>(rt: &H, alloc: Global, scene: &mut Scene) -> bool
+    requires { IsScene scene.old }
+    ensures { StaysScene scene.old scene.new }
 {
     let shown = AtomicU64::new(0);
     let floor = &shown;
@@ -154,25 +148,21 @@ fn pin_and_prune<H: Threads + Wait + Sync>(
         requires { IsSync H.row × IsPassOf pass.old store.now }
         ensures { IsPassOf pass.new store.now × (pass.new.number ≡ pass.old.number) }
     { put_and_prune_often(rt, alloc, store, pass, floor) };
-    side_by_side(rt, store, first, second, &pinner, &pruner)
+    side_by_side(rt, scene.store, scene.first, scene.second, &pinner, &pruner)
 }
 
 // Whether no floor passed a pin, and the floor rises to the head once there are no pins.
 pub(crate) fn pins_beside_prunings<H: Threads + Wait + Sync>(
     rt: &H,
     alloc: Global,
-    store: &Store<MemDisk>,
-    first: &mut Pass<MemDisk>,
-    second: &mut Pass<MemDisk>,
+    scene: &mut Scene,
 ) -> bool
-    requires first { IsPassOf first.old store.now }
-    requires second { IsPassOf second.old store.now }
-    ensures first { IsPassOf first.new store.now × (first.new.number ≡ first.old.number) }
-    ensures second { IsPassOf second.new store.now × (second.new.number ≡ second.old.number) }
+    requires { IsScene scene.old }
+    ensures { StaysScene scene.old scene.new }
 {
-    let well = pin_and_prune(rt, alloc, store, first, second);
+    let well = pin_and_prune(rt, alloc, scene);
     let head = ROUNDS as u64;
-    let rises = prunes_to(rt, store, second, head, head, None);
+    let rises = prunes_to(rt, scene.store, scene.second, head, head, None);
     well && rises
 }
 

@@ -2,9 +2,11 @@
 ghost use Rattle.std.specs.Prelude.{◌≡◌, length};
 ghost use Rattle.jf_store.specs.Passes.{AreNewPasses, IsPassOf};
 ghost use Rattle.jf_store.specs.Closing.{AreAllPasses, ArePassesOf};
+ghost use Rattle.test_passes.specs.Scenes.{IsScene, StaysScene};
 
 use crate::beside::{ROUNDS, pins_beside_prunings};
 use crate::held::the_floor_is_held;
+use crate::scene::Scene;
 use crate::shown::{head_is_shown, mark_is_met};
 use crate::writers::{are_all_put, both_put};
 use jf_disk::MemDisk;
@@ -50,7 +52,26 @@ fn failing_in(alloc: Global, run: Run) -> Result<Vec<u64>, Fail> {
     Ok(failing)
 }
 
-// Returns whether all went well.
+// Whether all went well.
+fn has_gone_well<H: Threads + Wait + Sync>(
+    rt: &H,
+    alloc: Global,
+    scene: &mut Scene,
+    run: Run,
+) -> bool
+    requires { IsScene scene.old }
+    ensures { StaysScene scene.old scene.new }
+{
+    match run {
+        Run::Writers => both_put(rt, alloc, scene),
+        Run::Beside => pins_beside_prunings(rt, alloc, scene),
+        Run::Held => the_floor_is_held(rt, alloc, scene),
+        Run::Shown => head_is_shown(rt, alloc, scene),
+        Run::Fault => mark_is_met(rt, alloc, scene),
+    }
+}
+
+// Runs over two passes. Returns whether all went well.
 fn run_on<H: Threads + Wait + Sync>(
     rt: &H,
     alloc: Global,
@@ -64,13 +85,12 @@ fn run_on<H: Threads + Wait + Sync>(
     ensures first { IsPassOf first.new store.now × (first.new.number ≡ first.old.number) }
     ensures second { IsPassOf second.new store.now × (second.new.number ≡ second.old.number) }
 {
-    match run {
-        Run::Writers => both_put(rt, alloc, store, first, second),
-        Run::Beside => pins_beside_prunings(rt, alloc, store, first, second),
-        Run::Held => the_floor_is_held(rt, alloc, store, first, second),
-        Run::Shown => head_is_shown(rt, alloc, store, first, second),
-        Run::Fault => mark_is_met(rt, alloc, store, first, second),
-    }
+    let mut scene = Scene {
+        store,
+        first,
+        second,
+    };
+    has_gone_well(rt, alloc, &mut scene, run)
 }
 
 #[tactic(auto, using(crate::proofs::Ends::first_new, crate::proofs::Ends::second_new))]

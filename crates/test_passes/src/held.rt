@@ -2,8 +2,10 @@
 // read as it was.
 ghost use Rattle.std.specs.Prelude.{◌≡◌};
 ghost use Rattle.jf_store.specs.Passes.{IsPassOf};
+ghost use Rattle.test_passes.specs.Scenes.{IsScene, StaysScene};
 
 use crate::closing::{Run, goes_well};
+use crate::scene::Scene;
 use crate::steps::{pin_head, prunes_to, put, reads_pinned};
 use jf_board::Held;
 use jf_disk::MemDisk;
@@ -53,19 +55,15 @@ const ONE: Held = Held {
 pub(crate) fn the_floor_is_held<H: Threads + Wait + Sync>(
     rt: &H,
     alloc: Global,
-    store: &Store<MemDisk>,
-    first: &mut Pass<MemDisk>,
-    second: &mut Pass<MemDisk>,
+    scene: &mut Scene,
 ) -> bool
-    requires first { IsPassOf first.old store.now }
-    requires second { IsPassOf second.old store.now }
-    ensures first { IsPassOf first.new store.now × (first.new.number ≡ first.old.number) }
-    ensures second { IsPassOf second.new store.now × (second.new.number ≡ second.old.number) }
+    requires { IsScene scene.old }
+    ensures { StaysScene scene.old scene.new }
 {
-    let pinned = pins_one(rt, alloc, store, first);
-    let put = puts_two(rt, alloc, store, second);
-    let stays = prunes_to(rt, store, second, 3, 1, Some(ONE));
-    pinned && put && stays && reads_pinned(first, 0, 1)
+    let pinned = pins_one(rt, alloc, scene.store, scene.first);
+    let put = puts_two(rt, alloc, scene.store, scene.second);
+    let stays = prunes_to(rt, scene.store, scene.second, 3, 1, Some(ONE));
+    pinned && put && stays && reads_pinned(scene.first, 0, 1)
 }
 
 #[test]

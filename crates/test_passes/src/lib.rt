@@ -9,6 +9,7 @@ mod beside;
 mod closing;
 #[cfg(test)]
 mod held;
+mod scene;
 #[cfg(test)]
 mod shown;
 #[cfg(test)]

@@ -3,8 +3,10 @@
 ghost use Rattle.std.specs.Prelude.{◌≡◌};
 ghost use Rattle.std.specs.Thread.{IsSync};
 ghost use Rattle.jf_store.specs.Passes.{IsPassOf};
+ghost use Rattle.test_passes.specs.Scenes.{IsScene, StaysScene};
 
 use crate::closing::{Run, goes_well};
+use crate::scene::Scene;
 use crate::signals::Signals;
 use crate::steps::put;
 use crate::threads::side_by_side;
@@ -61,17 +63,9 @@ fn put_held<H: Threads + Wait + Sync>(
 }
 
 // Whether the first pass finds version 1 while the second lands version 2.
-fn look_beside<H: Threads + Wait + Sync>(
-    rt: &H,
-    alloc: Global,
-    store: &Store<MemDisk>,
-    first: &mut Pass<MemDisk>,
-    second: &mut Pass<MemDisk>,
-) -> bool
-    requires first { IsPassOf first.old store.now }
-    requires second { IsPassOf second.old store.now }
-    ensures first { IsPassOf first.new store.now × (first.new.number ≡ first.old.number) }
-    ensures second { IsPassOf second.new store.now × (second.new.number ≡ second.old.number) }
+fn look_beside<H: Threads + Wait + Sync>(rt: &H, alloc: Global, scene: &mut Scene) -> bool
+    requires { IsScene scene.old }
+    ensures { StaysScene scene.old scene.new }
 {
     let made = Signals::new();
     let signals = &made;
@@ -83,7 +77,17 @@ fn look_beside<H: Threads + Wait + Sync>(
         requires { IsSync H.row × IsPassOf pass.old store.now }
         ensures { IsPassOf pass.new store.now × (pass.new.number ≡ pass.old.number) }
     { put_held(rt, alloc, store, pass, signals) };
-    side_by_side(rt, store, first, second, &looker, &lander)
+    side_by_side(rt, scene.store, scene.first, scene.second, &looker, &lander)
+}
+
+// Whether the first pass finds version 1 after the second has landed it.
+fn one_is_shown<H: Threads + Wait + Sync>(rt: &H, alloc: Global, scene: &mut Scene) -> bool
+    requires { IsScene scene.old }
+    ensures { StaysScene scene.old scene.new }
+{
+    let one = put(rt, alloc, scene.store, scene.second, b'a', 1).is_some();
+    let found = head_of(rt, scene.store, scene.first);
+    one && found == Some(1)
 }
 
 // Whether the first pass finds version 1 after the second has landed it, and while the second lands version 2, and this after
@@ -91,40 +95,30 @@ fn look_beside<H: Threads + Wait + Sync>(
 pub(crate) fn head_is_shown<H: Threads + Wait + Sync>(
     rt: &H,
     alloc: Global,
-    store: &Store<MemDisk>,
-    first: &mut Pass<MemDisk>,
-    second: &mut Pass<MemDisk>,
+    scene: &mut Scene,
 ) -> bool
-    requires first { IsPassOf first.old store.now }
-    requires second { IsPassOf second.old store.now }
-    ensures first { IsPassOf first.new store.now × (first.new.number ≡ first.old.number) }
-    ensures second { IsPassOf second.new store.now × (second.new.number ≡ second.old.number) }
+    requires { IsScene scene.old }
+    ensures { StaysScene scene.old scene.new }
 {
-    let one = put(rt, alloc, store, second, b'a', 1).is_some();
-    let before = head_of(rt, store, first);
-    let beside = look_beside(rt, alloc, store, first, second);
-    let after = head_of(rt, store, first);
-    one && before == Some(1) && beside && after == Some(2)
+    let before = one_is_shown(rt, alloc, scene);
+    let beside = look_beside(rt, alloc, scene);
+    let after = head_of(rt, scene.store, scene.first);
+    before && beside && after == Some(2)
 }
 
 // Whether the first pass finds version 1 after the second has landed it, and the mark after a landing at which the disk failed.
 pub(crate) fn mark_is_met<H: Threads + Wait + Sync>(
     rt: &H,
     alloc: Global,
-    store: &Store<MemDisk>,
-    first: &mut Pass<MemDisk>,
-    second: &mut Pass<MemDisk>,
+    scene: &mut Scene,
 ) -> bool
-    requires first { IsPassOf first.old store.now }
-    requires second { IsPassOf second.old store.now }
-    ensures first { IsPassOf first.new store.now × (first.new.number ≡ first.old.number) }
-    ensures second { IsPassOf second.new store.now × (second.new.number ≡ second.old.number) }
+    requires { IsScene scene.old }
+    ensures { StaysScene scene.old scene.new }
 {
-    let one = put(rt, alloc, store, second, b'a', 1).is_some();
-    let before = head_of(rt, store, first);
-    let two = put(rt, alloc, store, second, b'a', 2).is_some();
-    let broken = matches!(look(rt, store, first), Err(StoreFault::Broken));
-    one && before == Some(1) && !two && broken
+    let before = one_is_shown(rt, alloc, scene);
+    let two = put(rt, alloc, scene.store, scene.second, b'a', 2).is_some();
+    let broken = matches!(look(rt, scene.store, scene.first), Err(StoreFault::Broken));
+    before && !two && broken
 }
 
 #[test]

@@ -2,8 +2,10 @@
 ghost use Rattle.std.specs.Prelude.{◌≡◌};
 ghost use Rattle.std.specs.Thread.{IsSync};
 ghost use Rattle.jf_store.specs.Passes.{IsPassOf};
+ghost use Rattle.test_passes.specs.Scenes.{IsScene, StaysScene};
 
 use crate::closing::{Run, goes_well};
+use crate::scene::Scene;
 use crate::steps::{first_at, put};
 use crate::threads::side_by_side;
 use jf_disk::MemDisk;
@@ -84,17 +86,9 @@ fn put_all<H: Threads + Wait + Sync>(
 }
 
 // Whether both passes find all that they put, in two threads.
-pub(crate) fn both_put<H: Threads + Wait + Sync>(
-    rt: &H,
-    alloc: Global,
-    store: &Store<MemDisk>,
-    first: &mut Pass<MemDisk>,
-    second: &mut Pass<MemDisk>,
-) -> bool
-    requires first { IsPassOf first.old store.now }
-    requires second { IsPassOf second.old store.now }
-    ensures first { IsPassOf first.new store.now × (first.new.number ≡ first.old.number) }
-    ensures second { IsPassOf second.new store.now × (second.new.number ≡ second.old.number) }
+pub(crate) fn both_put<H: Threads + Wait + Sync>(rt: &H, alloc: Global, scene: &mut Scene) -> bool
+    requires { IsScene scene.old }
+    ensures { StaysScene scene.old scene.new }
 {
     let one = |store: &Store<MemDisk>, pass: &mut Pass<MemDisk>| -> bool
         requires { IsSync H.row × IsPassOf pass.old store.now }
@@ -104,7 +98,7 @@ pub(crate) fn both_put<H: Threads + Wait + Sync>(
         requires { IsSync H.row × IsPassOf pass.old store.now }
         ensures { IsPassOf pass.new store.now × (pass.new.number ≡ pass.old.number) }
     { put_all(rt, alloc, store, pass, SECOND) };
-    side_by_side(rt, store, first, second, &one, &other)
+    side_by_side(rt, scene.store, scene.first, scene.second, &one, &other)
 }
 
 // Who landed a version, and which one.
