@@ -1,7 +1,6 @@
 -- A line that was done, as a machine's clauses say it.
 use Rattle.std.proofs.Common.{◌≡◌, ◌∙◌, ◌⊎◌, inl, inr, ℕ, List, [], ◌++◌, append-nil, Some, None, Result, Ok, Err, false, refl, ap, sym, subst}
 use Rattle.std.specs.Prelude.{OnOk, IfErr}
-use Rattle.std.specs.declared.alloc.Global.{Global}
 use denote.Ref.{Bor, MutBor}
 use Rattle.jf_input.specs.Feeds.{given_of}
 use Rattle.jf_input.proofs.Given.{given_alike}
@@ -43,7 +42,7 @@ pub took_err : (s next : FollowState) (line whole : List ℕ) (r : Result (Unit 
 took_err s next line whole (Ok u) given did = tt
 took_err s next line whole (Err why) given did = takes_whole s next line whole (Err why) given did.0
 
-pub took_ready : {T : Type 0} (shown : T → FollowState) (s next : T) (pre : Global → MutBor T → Bor (List ℕ) → Type 0) (post : Global → MutBor T → Bor (List ℕ) → Result (Unit {0}) FollowStop → MutBor T → Type 0) (line : List ℕ) (r : Result (Unit {0}) FollowStop)
+pub took_ready : {T : Type 0} (shown : T → FollowState) (s next : T) (pre : MutBor T → Bor (List ℕ) → Type 0) (post : MutBor T → Bor (List ℕ) → Result (Unit {0}) FollowStop → MutBor T → Type 0) (line : List ℕ) (r : Result (Unit {0}) FollowStop)
     → MayFollow shown s pre post → DoesLandingLine (shown s) line r (shown next) → OnOk r (MayFollow shown next pre post)
 took_ready shown s next pre post line (Ok u) may did = record { whole = did.1 refl; steps = may.steps }
 took_ready shown s next pre post line (Err why) may did = tt

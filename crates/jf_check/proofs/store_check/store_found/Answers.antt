@@ -21,7 +21,7 @@ returns-in-Some g c =
     let log = c.in-Some.log in
     let both = on_same _ _ _ (e.left h refl) (live_in_step _ _ c.in-Ok.live _ (ap read_by c.in-Some.is) (e.in_step h refl)) in
     let held = subst (HoldsLive (reads h)) (ap read_by c.in-Some.is) (e.found h refl) in
-    let live = found_live p.is_live log (subst (λ (l : Option Log). (l ≡ None) ↔ (p.is_live ≡ false)) c.in-Some.is e.none) in
+    let live = found_live p.is_live log (subst (λ (l : Option Log). (l ≡ None) ↔ (p.is_live ≡ false)) c.in-Some.is e.given) in
     let side = (subst (λ (l : Option Log). IfSome l (λ log. (log.side ≡ p.side) × (log.offset ≡ p.offset) × (log.failed ≡ false))) c.in-Some.is e.log).0 in
     let some = (subst (λ (l : Option Log). IfSome l (λ log. (is_begun log.records ≡ true) × (0 < length log.records))) c.in-Some.is e.begun).1 in
     IfOk-weaker c.live_store.result _ _

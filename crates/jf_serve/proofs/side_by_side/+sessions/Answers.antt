@@ -54,7 +54,7 @@ join-last-requires-after_bounds g t c κs within =
                   search rules,
                   rest_new store passes rest pass scripts others script c.requires.new c.requires.long popped cut,
                   as_many store passes rest pass scripts others script c.requires.new c.requires.long popped cut,
-                  c.requires.none,
+                  c.requires.empty,
                   rest_room store passes rest pass scripts others script c.requires.new c.requires.long popped cut c.args.gathered.room c.requires.room,
                 ),
                 search rules,
