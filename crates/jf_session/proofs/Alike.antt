@@ -117,6 +117,6 @@ module _ (line other : List ℕ) (k : AreAlike line other) where
   line_alike : (s new : Session) (r : Result (List ℕ) Stop) → AnswersLine s line new r → AnswersLine s other new r
   line_alike s new r a = record { start = a.start; start_is = a.start_is; begun = a.begun; over = a.over; events = a.events; makes = makes_alike a.start s new r a.makes }
 
--- what a line makes of a session, of which the front is given
+-- the result for a session of a line of which the front is given
 pub answers_given : (s new : Session) (line whole : List ℕ) (r : Result (List ℕ) Stop) → line ≡ given_of whole → AnswersLine s line new r → AnswersLine s whole new r
 answers_given s new line whole r given a = line_alike line whole (given_are_alike line whole given) s new r a

@@ -1,4 +1,4 @@
--- What the calls of a pass that change the store come to, each for its command.
+-- The results of the calls of a pass that change the store, each for its command.
 use Rattle.std.proofs.Common.{◌≡◌, ◌∙◌, inl, inr, ℕ, ◌+◌, List, [], ◌∷◌, ◌++◌, length, refl, sym, ap, ap₂, subst}
 use Rattle.jf_hash.specs.Maps.{Batch}
 use Rattle.jf_hash.specs.Roots.{root}

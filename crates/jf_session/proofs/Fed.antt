@@ -1,4 +1,4 @@
--- What a session made of an input, as a run.
+-- The result of an input for a session, as a run.
 use Rattle.std.proofs.Common.{◌≡◌, inl, inr, ℕ, Option, Some, None, option_map, List, [], ◌∷◌, ◌++◌, length, refl, sym, ap, ◌∙◌, subst, arith, append_assoc, append-nil, length-append}
 use Rattle.std.specs.Prelude.{Result, Ok, Err, option_to_list}
 use Rattle.jf_io.specs.Sink.{IsCutShort}
@@ -76,14 +76,14 @@ module _ (start : Start) (old : Pass) (begun : old.start ≡ Some start) (none :
   }
 
   -- ---- at a line
-  -- as far as a line that was begun
+  -- as far as a line that was started
   reads_begun : (e : End) (ds : List (List ℕ)) (next : Option (List ℕ)) → ((taken left : List ℕ) (ls : List (List ℕ)) → ReadsBy e taken left ls) → ReadsLinesOf rest rest' (ds ++ option_to_list next)
       → (all : List ℕ) → rest ≡ Some all → (left : List ℕ) × (rest' ≡ Some left) × HasReadInput e all left ds next
   reads_begun e ds next far reads all is =
       let r = reads_to rest rest' ds next reads all is in
       (r.0, r.1, record { taken = r.2.taken; split = r.2.split; first = r.2.first; far = far r.2.taken r.0 ds; begun = r.2.begun })
 
-  -- nothing was written of a line that was begun
+  -- nothing was written of a line that was started
   stopped_in : (e : End) (m new : Session) (ds : List (List ℕ)) (so_far : Option (List ℕ)) (line : List ℕ) (s : IsSaid m ds so_far) → EndsBy e start m new (Some line) → WritesBy e s.replies s.said → text' ≡ so_far
       → ((taken left : List ℕ) (ls : List (List ℕ)) → ReadsBy e taken left ls) → ReadsLinesOf rest rest' (ds ++ line ∷ []) → RanTo e new
   stopped_in e m new ds so_far line s ends by same far reads = record {

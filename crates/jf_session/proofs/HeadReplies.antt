@@ -1,8 +1,6 @@
 -- A line that reads the head, answered by a look.
-use Rattle.std.proofs.Common.{◌≡◌, ◌∙◌, inl, ℕ, true, false, Some, List, ◌++◌, length, refl, sym, ap, ap₂, subst}
-use Rattle.std.specs.Prelude.{Ok, Err, slice_get}
-use Rattle.std.proofs.lemmas.Option.{slice_get_within, get_or_from_slice_get}
-use Rattle.jf_path.proofs.ListLaws.{All-of}
+use Rattle.std.proofs.Common.{◌≡◌, ◌∙◌, inl, ℕ, true, false, Some, List, ◌∷◌, ◌++◌, length, refl, sym, ap, ap₂, subst}
+use Rattle.std.specs.Prelude.{Ok, Err}
 use Rattle.jf_hash.specs.Maps.{Map}
 use Rattle.jf_model.specs.Versions.{newest}
 use Rattle.jf_model.specs.States.{State}
@@ -16,12 +14,11 @@ use Rattle.jf_script.specs.declared.command.Question.{Question}
 use Rattle.jf_script.specs.declared.command.Command.TheVariants as command
 use Rattle.jf_answers.specs.Answers.{Answer}
 use Rattle.jf_history.specs.Sessions.{Session, HoldsPins, seen_by}
-use Rattle.jf_session.specs.declared.prepared_reply.PreparedReply.{PreparedReply}
 use Rattle.jf_session.specs.declared.stop.Stop.{Stop}
 use Rattle.jf_session.specs.declared.stop.Stop.TheVariants as stop
 use Rattle.jf_session.specs.Questions.{question_reply}
 use Rattle.jf_session.specs.Answering.{StopsAt}
-use Rattle.jf_session.specs.PreparedReplies.{AsksHead, question_text, IsPreparedFor, ArePreparedAt, HasLookedAtHead}
+use Rattle.jf_session.specs.PreparedReplies.{AsksHead, question_text, ArePreparedFor, ArePreparedAt, HasLookedAtHead}
 use Rattle.jf_session.specs.Steps.{DoneByLook, StopsFor, IsSoundSession}
 use Rattle.jf_session.specs.Taking.{RepliesWith, Makes, DoesLine}
 use Rattle.jf_session.proofs.BaseLaws.{Sees-self}
@@ -87,13 +84,14 @@ module _ (start : Start) (old : Session) (line out out' : List ℕ) (is : old.pa
       )
 
 -- ---- a reply that was prepared
--- it is the reply to its line while the pass sees no more
+-- the first is the reply to its line while the pass sees no more
 pub DoesLine-prepared : (start : Start) (s : Session) (line out out' : List ℕ) → s.pass.start ≡ Some start → s.over ≡ false → IsSoundSession s → HoldsPins s → AreEvents start s.pass.seen
-    → (ps : List PreparedReply) → ArePreparedAt s.pass ps → (place : ℕ) (p : PreparedReply) → slice_get ps place ≡ Some p → p.line ≡ line → out' ≡ out ++ p.text → DoesLine s line out (Ok tt) s out'
-DoesLine-prepared start s line out out' is goes sound pins events ps prepared place p there same appended =
+    → (rs rest : List (List ℕ × List ℕ)) → ArePreparedAt s.pass rs → (l text : List ℕ) → rs ≡ (l, text) ∷ rest → l ≡ line → out' ≡ out ++ text → DoesLine s line out (Ok tt) s out'
+DoesLine-prepared start s line out out' is goes sound pins events rs rest prepared l text first same appended =
     let m = newest (state_after_events start s.pass.seen).all in
     let n = length (seen_by s.pass) in
-    let reply = All-of (λ x. IsPreparedFor m n x.line x.text) ps p (prepared start is) (place, slice_get_within ps place p there, get_or_from_slice_get ps place p p there) in
-    let asks : AsksHead line reply.question = subst (λ l. AsksHead l reply.question) same reply.asks in
-    DoesLine-replied start s line out out' is goes s p.text goes events appended (
-    RepliesWith-head start s s (Sees-self s.pass) refl (unmarked_of s sound goes) pins line p.text reply.question asks reply.text_is)
+    let all : ArePreparedFor m n ((l, text) ∷ rest) = subst (λ (x : List (List ℕ × List ℕ)). ArePreparedFor m n x) first (prepared start is) in
+    let reply = all.0 in
+    let asks : AsksHead line reply.question = subst (λ x. AsksHead x reply.question) same reply.asks in
+    DoesLine-replied start s line out out' is goes s text goes events appended (
+    RepliesWith-head start s s (Sees-self s.pass) refl (unmarked_of s sound goes) pins line text reply.question asks reply.text_is)

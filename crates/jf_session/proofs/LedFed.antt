@@ -1,4 +1,4 @@
--- What a session that leads made of an input: the run, and what is written of its landings.
+-- The result of an input for a session that leads: the run, and what is written of its landings.
 use Rattle.std.proofs.Common.{◌≡◌, inl, inr, ℕ, Bool, Option, None, List, [], ◌∷◌, ◌++◌, refl, sym, ap, ap₂, ◌∙◌, subst, append-nil, Some}
 use Rattle.std.specs.Prelude.{Result, Ok, Err}
 use Rattle.jf_path.proofs.OptionLaws.{some_same}

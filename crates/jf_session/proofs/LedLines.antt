@@ -1,6 +1,6 @@
 -- A line that is done and told of, from the command that it is to a step of a machine.
 use Rattle.std.proofs.Common.{◌≡◌, inl, inr, ℕ, false, Some, List, [], ◌++◌, refl, sym, ap, append-nil}
-use Rattle.std.specs.Prelude.{Result, Ok, Err, OnOk, OnErr, IfErr}
+use Rattle.std.specs.Prelude.{◌⊎◌, Result, Ok, Err, OnOk, OnErr, IfErr}
 use denote.Ref.{Bor, MutBor}
 use Rattle.jf_input.specs.Feeds.{given_of}
 use Rattle.jf_text.specs.Words.{is_long}
@@ -12,19 +12,35 @@ use Rattle.jf_script.specs.declared.reply.Reply.{Reply}
 use Rattle.jf_store.specs.Starts.{Start}
 use Rattle.jf_store.specs.Ledgers.{AreEvents}
 use Rattle.jf_store.specs.Passes.{Store, Pass, IsPassOf}
-use Rattle.jf_history.specs.Sessions.{Session, HoldsPins, seen_by}
+use Rattle.jf_history.specs.Sessions.{Session, IsTry, IsBroken, HasDoneNothing, HoldsPins, seen_by}
 use Rattle.jf_session.specs.declared.stop.Stop.{Stop}
 use Rattle.jf_session.specs.declared.stop.Stop.TheVariants as stop
 use Rattle.jf_session.specs.Steps.{FollowsCommand, IsDoneAs, StopsFor, IsObeyedWith}
 use Rattle.jf_session.specs.Answering.{IsRepliedBy, stopped_session}
 use Rattle.jf_session.specs.Taking.{RepliesWith, Makes, AnswersLine, StaysQuiet, MayStep}
 use Rattle.jf_session.specs.Leading.{HasLandedMore, AreOfLast}
-use Rattle.jf_session.specs.Telling.{IsLedAs, IsLedLine, LandsMore, LandsLast, LeadsLine, DoesLeading}
+use Rattle.jf_session.specs.Telling.{TellsLandings, IsLedAs, LandsMore, LandsLast, LeadsLine, DoesLeading}
 use Rattle.jf_session.proofs.OfLines.{IsLineOf, line_of, done_of, stops_of, itself_idle, replied_ended, stops_ended}
 use Rattle.jf_session.proofs.SamePass.{IsSamePass, same_of, same_replied, same_idle, same_try, own_after}
 use Rattle.jf_session.proofs.OwnLandings.{landed_same, landed_others, landed_mark}
 use Rattle.jf_session.proofs.Alike.{answers_given}
 use Rattle.jf_session.proofs.QuietSteps.{GivesNone, quiet_line}
+
+-- ---- what comes of a line
+-- a line was replied to, and neither its reply nor what it landed is told
+pub record RepliesUntold (start : Start) (s : Session) (line : List ℕ) (new : Session) : Type 0 where
+  pub text : List ℕ
+  pub replied : RepliesWith start s line new text
+  pub blocks : List LandingBlock
+  pub landed : HasLandedMore start s.pass new.pass blocks
+  pub last : AreOfLast start.state (seen_by new.pass) blocks
+
+-- a line was done, its reply is dropped, and what it landed is told; or why not, and nothing is told
+abbrev pub IsLedLine : Start → Session → Session → List ℕ → List ℕ → List ℕ → Result (Unit {0}) Stop → Type 0
+IsLedLine start old new line told told' (Ok done) = (text : List ℕ) × RepliesWith start old line new text × (new.over ≡ false) × TellsLandings start old.pass new.pass told told'
+IsLedLine start old new line told told' (Err stop.DiskFault) = IsTry start old new line × (told' ≡ told)
+IsLedLine start old new line told told' (Err stop.Broken) = IsBroken old new line × (told' ≡ told)
+IsLedLine start old new line told told' (Err stop.Memory) = (HasDoneNothing old new line ⊎ RepliesUntold start old line new) × (told' ≡ told)
 
 -- ---- the pass stays one of its store
 same_follows : (old new : Pass) (c : Command) → FollowsCommand old new c → IsSamePass old new
@@ -81,7 +97,7 @@ led_itself start s line r block goes q told = (q.0.text, replies_by start s s li
 pub led_unread : (start : Start) (s : Session) (line : List ℕ) → HoldsPins s → (told : List ℕ) → IsLedLine start s s line told told (Err stop.Memory)
 led_unread start s line pins told = (inl (itself_idle s line pins), refl)
 
--- ---- what a call makes of a session
+-- ---- the result of a call for a session
 module _ (start : Start) (s new : Session) (line told told' : List ℕ) (is : s.pass.start ≡ Some start) (begun : s.over ≡ false) (events : AreEvents start new.pass.seen) where
   pub leads_on : IsLedLine start s new line told told' (Ok tt) → DoesLeading s line told (Ok tt) new told'
   leads_on d =
@@ -139,7 +155,7 @@ module _ (start : Start) (s new : Session) (line told told' : List ℕ) (is : s.
   )
 
 -- ---- a step of a machine
--- what is made of what is given of a line is made of the line
+-- the result for what is given of a line is the result for the line
 leads_given : (s new : Session) (line whole : List ℕ) (r : Result (List ℕ) Stop) → line ≡ given_of whole → LeadsLine s line new r → LeadsLine s whole new r
 leads_given s new line whole (Ok told) given l = (l.0, l.1, answers_given s new line whole (Ok l.0) given l.2, l.3, l.4)
 leads_given s new line whole (Err stop.DiskFault) given l = (answers_given s new line whole (Err stop.DiskFault) given l.0, l.1)

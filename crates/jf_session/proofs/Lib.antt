@@ -34,4 +34,5 @@ pub mod LedLines
 pub mod LedFed
 pub mod LeadLaws
 pub mod HeadReplies
+pub mod ReplySizes
 pub mod PreparedParts

@@ -1,4 +1,4 @@
--- What a change of what is pending makes of a session.
+-- The result for a session of a change of what is pending.
 use Rattle.std.proofs.Common.{◌≡◌, inl, inr, ◌∙◌, ℕ, Bool, true, false, cond, IsTrue, Option, Some, None, List, [], length, refl, sym, ap, subst}
 use Rattle.std.specs.FinMap.{put}
 use Rattle.jf_path.specs.Keys.{key_cmp}
@@ -25,7 +25,7 @@ use Rattle.jf_session.proofs.Entering.{own_of}
 use Rattle.jf_session.proofs.Refused.{answer-refused, follows-Sees}
 use Rattle.jf_session.proofs.BaseLaws.{Sees-self}
 
--- the command that a value stands for: a `put` of it, or without one a `del`
+-- the command that a value represents: a `put` of it, or without one a `del`
 abbrev pub set_command : List ℕ → Option (List ℕ) → Command
 set_command name (Some value) = command.Own (own_command.Put name value)
 set_command name None = command.Own (own_command.Del name)

@@ -1,4 +1,4 @@
--- What pinning a version and freeing a place make of a session.
+-- The results for a session of pinning a version and of freeing a place.
 use Rattle.std.proofs.Common.{◌≡◌, ◌⊎◌, ◌∙◌, inl, inr, ℕ, zero, suc, ◌+◌, Bool, false, cond, Option, Some, None, List, [], ◌∷◌, ◌++◌, refl, sym, ap, ap₂, subst, arith, append-nil}
 use Rattle.std.specs.Prelude.{nat_le, nat_lt, is_none, slice_index_or, slice_set, option_map, unwrap_or}
 use Rattle.std.specs.List.{position_or_len}

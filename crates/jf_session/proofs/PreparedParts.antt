@@ -1,12 +1,13 @@
 -- What holds of the results of all parts, one after another.
-use Rattle.std.proofs.Common.{◌≡◌, Bool, true, false, cond, List, [], ◌∷◌, ◌++◌, sym, subst}
+use Rattle.std.proofs.Common.{◌≡◌, List, [], ◌∷◌, ◌++◌, sym, subst}
+use Rattle.std.specs.Prelude.{Result, Ok, Err, OnOk, OnErr}
 use Rattle.std.specs.List.{AllByRecursion, AllZip}
 use Rattle.jf_path.proofs.ListLaws.{All-append}
 
 -- a list was appended, or it was not
-pub All-appended : {X : Type 0} (P : X → Type 0) (b : Bool) (xs ys zs : List X) → zs ≡ cond b (xs ++ ys) xs → AllByRecursion P xs → AllByRecursion P ys → AllByRecursion P zs
-All-appended P true xs ys zs is front more = subst (AllByRecursion P) (sym is) (All-append P xs ys front more)
-All-appended P false xs ys zs is front more = subst (AllByRecursion P) (sym is) front
+pub All-appended : {X T E : Type 0} (P : X → Type 0) (r : Result T E) (xs ys zs : List X) → OnOk r (zs ≡ xs ++ ys) → OnErr r (zs ≡ xs) → AllByRecursion P xs → AllByRecursion P ys → AllByRecursion P zs
+All-appended P (Ok x) xs ys zs is same front more = subst (AllByRecursion P) (sym is) (All-append P xs ys front more)
+All-appended P (Err e) xs ys zs is same front more = subst (AllByRecursion P) (sym same) front
 
 -- what holds of the result of each piece, whatever the piece
 pub All-zip : {X Y : Type 0} (P : Y → Type 0) (xs : List X) (ys : List Y) → AllZip (λ x y. P y) xs ys → AllByRecursion P ys

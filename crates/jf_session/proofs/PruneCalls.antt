@@ -1,4 +1,4 @@
--- What a pruning by a pass comes to, for `prune`.
+-- The result of a pruning by a pass, for `prune`.
 use Rattle.std.proofs.Common.{◌≡◌, inl, inr, ℕ, List, ◌++◌, length, refl, ap, subst}
 use Rattle.jf_path.specs.Limits.{max_pins}
 use Rattle.jf_hash.specs.Maps.{Batch}

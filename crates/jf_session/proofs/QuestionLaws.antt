@@ -52,7 +52,7 @@ module _ (m : Map) (start count : ℕ) where
   pub chunk-beyond : (n : ℕ) → n ≡ len m → n ≤ start → (reply.No (refusal.Range n), []) ≡ question_reply (question.Chunk start count) m
   chunk-beyond n number above = sym (question_reply-refused (question.Chunk start count) m (refusal.Range n) (beyond m start n number above))
 
--- the entry that was found at a place is the one that is told
+-- the entry that was found at a place is the one that is returned
 some_at : {A : Type 0} (xs : List A) (place : ℕ) (x d : A) → slice_get xs place ≡ Some x → slice_index_or xs place d ≡ x
 some_at [] place x d there = absurd (cc)
 some_at (y ∷ xs) zero x d there = cc

@@ -19,7 +19,7 @@ AreTold [] (c ∷ cs) = ⊥
 AreTold (f ∷ fs) [] = ⊥
 AreTold (f ∷ fs) (c ∷ cs) = (f.0 ≡ c.0) × (refusal_or_stop f.1 ≡ Ok c.1) × AreTold fs cs
 
--- what the first test that holds is told as
+-- what the first test that holds is reported as
 pub record IsToldAs (causes : Causes) (f : StoreFault) : Type 0 where
   pub why : Refusal
   pub first : first_of causes ≡ Some why
@@ -46,7 +46,7 @@ granted_alike (f ∷ fs) (c ∷ cs) a none = by (λ rest. granted_alike fs cs a.
         let rest : first_of fs ≡ None = ap (λ b. cond b (Some f.1) (first_of fs)) (sym is) ∙ none in
         ap (λ b. cond b (Some c.1) (first_of cs)) (sym a.0 ∙ is) ∙ more rest
 
--- if a fault is the first that holds, so is what it is told as
+-- if a fault is the first that holds, so is what it is reported as
 pub refused_alike : (fs : StoreFaults) (cs : Causes) (f : StoreFault) → AreTold fs cs → first_of fs ≡ Some f → IsToldAs cs f
 refused_alike [] [] f a some = absurd (cc)
 refused_alike [] (c ∷ cs) f a some = absurd a
@@ -87,7 +87,7 @@ why_refused events rest cs f a is = by (is_marked events) refl
     by true marked = inl (is ∙ ap (λ b. unwrap_or (cond b (Some store_fault.Broken) (first_of rest)) store_fault.Memory) marked, marked)
     by false clear = later clear (unmarked-refused rest cs f a (is ∙ ap (λ b. unwrap_or (cond b (Some store_fault.Broken) (first_of rest)) store_fault.Memory) clear))
 
--- a refusal that is told in a reply is the command's
+-- a refusal that is reported in a reply is the command's
 pub told-reply : (events : List Event) (rest : StoreFaults) (cs : Causes) (f : StoreFault) (why : Refusal) → AreTold rest cs → IsRefusal (broken_faults events ++ rest) f → refusal_or_stop f ≡ Ok why
     → (is_marked events ≡ false) × (first_of cs ≡ Some why)
 told-reply events rest cs f why a is tells = by (why_refused events rest cs f a is)

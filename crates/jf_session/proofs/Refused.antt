@@ -51,7 +51,7 @@ SeesMore-Sees p p' c sees = record { follows = follows-Sees p p' c sees; others 
 pub SeesMore-own : (p p' : Pass) (pending : Batch) (c : Command) → SeesMore p p' c → own_of p' pending ≡ own_of p pending
 SeesMore-own p p' pending c sees = ap₂ (λ (n : ℕ) (ps : List (Option SnapshotValue)). record { number = n; pending = pending; pins = pinned_versions ps }) (ap (λ (q : Pass). q.number) sees.follows.same) sees.pinned
 
--- the store refused the call for a command, by these faults; each is told as one of these causes, of which the first that holds refuses the command
+-- the store refused a command's call, by these faults, reported as these causes; the first that holds refuses the command
 pub record Refuses (start : Start) (p p' : Pass) (pending : Batch) (c : Command) (f : StoreFault) : Type 0 where
   pub sees : SeesMore p p' c
   pub rest : StoreFaults
@@ -106,6 +106,6 @@ module _ (start : Start) (p p' : Pass) (pending : Batch) (over over' : Bool) (ol
     StopsFor-refused stop.Broken tells = (NotDone-sees t.sees, told-broken p'.seen t.rest t.told_as f t.alike t.is tells, asks)
     StopsFor-refused stop.Memory tells = NotDone-sees t.sees
 
--- a refusal that is told in a reply saw no mark
+-- a refusal that is reported in a reply saw no mark
 pub Refuses-unmarked : (start : Start) (p p' : Pass) (pending : Batch) (c : Command) (f : StoreFault) (why : Refusal) → Refuses start p p' pending c f → refusal_or_stop f ≡ Ok why → is_marked p'.seen ≡ false
 Refuses-unmarked start p p' pending c f why t tells = (told-reply p'.seen t.rest t.told_as f why t.alike t.is tells).0

@@ -1,4 +1,4 @@
--- What a call of a pass comes to that failed: the reply, or why the session ends.
+-- The result of a call of a pass that failed: the reply, or why the session ends.
 use Rattle.std.proofs.Common.{◌≡◌, ◌⊎◌, inl, inr, ◌∙◌, Bool, true, false, [], sym, ap, subst}
 use Rattle.std.specs.Prelude.{Result, Ok, Err}
 use Rattle.jf_hash.specs.Maps.{Batch}
@@ -42,7 +42,7 @@ module _ (start : Start) (p p' : Pass) (pending : Batch) (over over' : Bool) (c 
         subst (StopsFor start old (session_of p' pending over') c) same (TriedFor-tries start p p' pending pending over over' old view c failed.1)
     told_stops why tells (inr t) = StopsFor-refused start p p' pending over over' old view c f t asks why tells
 
-    -- a reply is that of the command, and a stop is told as the command's
+    -- a reply is that of the command, and a stop is reported as the command's
     pub IsObeyed-failed : old.over ≡ false → (r : Result Reply Stop) → TellsFault f over over' r → IsObeyed start old (session_of p' pending over') c r
     IsObeyed-failed goes (Ok x) t = (told_done x t.ok.0 t.ok.1 t.ok.2 fails, t.goes_on ∙ ap (λ (s : Session). s.over) view ∙ goes)
     IsObeyed-failed goes (Err why) t = told_stops why t.err fails

@@ -1,4 +1,4 @@
--- What a read of a stored map makes of a session, by the base that names the map.
+-- The result of a read of a stored map for a session, by the base that names the map.
 use Rattle.std.specs.Prelude.{Result, Ok, slice_index_or}
 use Rattle.std.proofs.Common.{◌≡◌, ◌∙◌, ℕ, Bool, false, Some, None, List, [], ◌++◌, refl, sym, ap, subst}
 use Rattle.jf_path.specs.Checks.{first_of}

@@ -33,7 +33,7 @@ module _ (start : Start) (old : Pass) where
     pub answered : HasAnswered start old new (ds ++ ls) (rs ++ replies)
     pub text_is : said ≡ text_in replies
 
-  -- lines were taken after others, and gave no entry; at the next, if one was begun, nothing was done
+  -- lines were taken after others, and gave no entry; at the next, if one was started, nothing was done
   pub record WentOn (new : Session) (ds : List (List ℕ)) (rs : List Answered) (later : List (List ℕ)) : Type 0 where
     pub more : List (List ℕ)
     pub replies : List Answered
@@ -116,7 +116,7 @@ module _ (start : Start) (old : Pass) where
     went_on m new ds rs (line ∷ ls) a w = went_line w.1 m w.0 new ds rs line ls a w.2 w.3 w.4 (λ es qs b. went_on w.0 new es qs ls b w.4)
 
 -- ---- the lines read, and the next
--- the lines are the first of those read, and the next, if one was begun, was read too
+-- the lines are the first of those read, and the next, if one was started, was read too
 pub record HasReadTo (all left : List ℕ) (ls : List (List ℕ)) (next : Option (List ℕ)) : Type 0 where
   pub taken : List ℕ
   pub split : all ≡ taken ++ left

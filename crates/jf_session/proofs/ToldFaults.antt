@@ -1,4 +1,4 @@
--- The faults of each call of a pass that changes the store or pins are told as the causes for which the command is refused.
+-- The faults of each call of a pass that changes the store or pins are reported as the causes of the command's refusal.
 use Rattle.std.proofs.Common.{ℕ, ◌++◌, length, refl}
 use Rattle.jf_model.specs.Batches.{key_count}
 use Rattle.jf_model.specs.States.{State}

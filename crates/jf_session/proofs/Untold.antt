@@ -1,4 +1,4 @@
--- What a command lands, and what is told of it.
+-- What a command lands, and what is written of it.
 use Rattle.std.proofs.Common.{◌≡◌, ◌∙◌, inl, inr, ℕ, Bool, true, false, Option, Some, None, List, [], ◌++◌, refl, sym, ap, append-nil}
 use Rattle.std.specs.Prelude.{Result, Ok, Err, OnOk, IfErr}
 use Rattle.jf_hash.specs.Maps.{Batch}
@@ -96,9 +96,9 @@ pub landed_failed : (start : Start) (p p' : Pass) (pending : Batch) (c : Command
 landed_failed start p p' pending c f (inl failed) = landed_mark start p p' failed.1.before p.number failed.1.attempt failed.1.follows.sees
 landed_failed start p p' pending c f (inr t) = landed_follows start p p' c t.sees.follows t.sees.others
 
--- ---- what is told
+-- ---- what is written
 module _ (start : Start) (old new : Session) (c : Command) where
-  -- the blocks of what it landed are told, unless memory ran out
+  -- the blocks of what it landed are written, unless memory ran out
   pub led_told : (r : Reply) → IsDoneAs start old new c r [] → new.over ≡ false → (blocks : List LandingBlock) → HasLandedMore start old.pass new.pass blocks → AreOfLast start.state (seen_by new.pass) blocks
       → (told told' : List ℕ) (o : Result (Unit {0}) Stop) → OnOk o (told' ≡ told ++ landings_text blocks) → IfErr o (λ why. (why ≡ stop.Memory) × (told' ≡ told)) → IsLedAs start old new c told told' o
   led_told r done goes blocks landed last told told' (Ok u) ok err = (r, [], done, goes, record { blocks = blocks; landed = landed; appended = ok })
@@ -106,7 +106,7 @@ module _ (start : Start) (old new : Session) (c : Command) where
   led_told r done goes blocks landed last told told' (Err stop.Broken) ok err = let e : stop.Broken ≡ stop.Memory = err.0 in absurd (cc)
   led_told r done goes blocks landed last told told' (Err stop.Memory) ok err = (inr record { reply = r; lines = []; done = done; blocks = blocks; landed = landed; last = last }, err.1)
 
-  -- nothing is told of one that landed nothing
+  -- nothing is written of one that landed nothing
   led_done : (r : Reply) (lines : List ℕ) → IsDoneAs start old new c r lines → new.over ≡ false → HasLandedMore start old.pass new.pass [] → (told : List ℕ) → IsLedAs start old new c told told (Ok tt)
   led_done r lines done goes landed told = (r, lines, done, goes, record { blocks = []; landed = landed; appended = sym (append-nil told) })
 

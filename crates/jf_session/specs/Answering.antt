@@ -1,4 +1,4 @@
--- What a line makes of a session, before its reply is written.
+-- The result of a line for a session, before its reply is written.
 use Rattle.std.specs.Prelude.{◌≡◌, ℕ, true, List, ◌++◌, length}
 use Rattle.jf_store.specs.Starts.{Start}
 use Rattle.jf_script.specs.declared.reply.Reply.{Reply}

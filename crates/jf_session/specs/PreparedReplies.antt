@@ -1,5 +1,5 @@
 -- Replies to lines that read the head, made before the lines are taken.
-use Rattle.std.specs.Prelude.{◌≡◌, ℕ, false, List, ◌++◌, length, Some}
+use Rattle.std.specs.Prelude.{◌≡◌, ℕ, ◌≤◌, false, List, [], ◌∷◌, ◌++◌, length, take, drop, Some}
 use Rattle.std.specs.List.{AllByRecursion}
 use Rattle.jf_hash.specs.Maps.{Map}
 use Rattle.jf_model.specs.Versions.{newest}
@@ -17,7 +17,6 @@ use Rattle.jf_script.specs.declared.command.Base.TheVariants as base
 use Rattle.jf_script.specs.declared.command.Command.TheVariants as command
 use Rattle.jf_script.specs.Replies.{reply_text}
 use Rattle.jf_history.specs.Sessions.{Session, seen_by}
-use Rattle.jf_session.specs.declared.prepared_reply.PreparedReply.{PreparedReply}
 use Rattle.jf_session.specs.Questions.{question_reply}
 
 -- ---- a line
@@ -37,13 +36,28 @@ pub record IsPreparedFor (m : Map) (n : ℕ) (line text : List ℕ) : Type 0 whe
   pub asks : AsksHead line question
   pub text_is : text ≡ question_text m n question
 
--- so it is with each of these
-abbrev pub ArePreparedFor : Map → ℕ → List PreparedReply → Type 0
-ArePreparedFor m n ps = AllByRecursion (λ p. IsPreparedFor m n p.line p.text) ps
+-- so it is with each of these lines and texts
+abbrev pub ArePreparedFor : Map → ℕ → List (List ℕ × List ℕ) → Type 0
+ArePreparedFor m n rs = AllByRecursion (λ r. IsPreparedFor m n r.0 r.1) rs
 
 -- they were prepared over all that the pass has seen
-abbrev pub ArePreparedAt : Pass → List PreparedReply → Type 0
-ArePreparedAt p ps = (start : Start) → p.start ≡ Some start → ArePreparedFor (newest (state_after_events start p.seen).all) (length (seen_by p)) ps
+abbrev pub ArePreparedAt : Pass → List (List ℕ × List ℕ) → Type 0
+ArePreparedAt p rs = (start : Start) → p.start ≡ Some start → ArePreparedFor (newest (state_after_events start p.seen).all) (length (seen_by p)) rs
+
+-- ---- lines and texts in two buffers
+-- the lines and texts of these sizes that stand one after another in two buffers
+abbrev pub replies_of : List (ℕ × ℕ) → List ℕ → List ℕ → List (List ℕ × List ℕ)
+replies_of [] lines texts = []
+replies_of (s ∷ ss) lines texts = (take s.0 lines, take s.1 texts) ∷ replies_of ss (drop s.0 lines) (drop s.1 texts)
+
+-- the sizes are those of all that stands in the buffers
+abbrev pub AreSizesOf : List (ℕ × ℕ) → List ℕ → List ℕ → Type 0
+AreSizesOf [] lines texts = (lines ≡ []) × (texts ≡ [])
+AreSizesOf (s ∷ ss) lines texts = (s.0 ≤ length lines) × (s.1 ≤ length texts) × AreSizesOf ss (drop s.0 lines) (drop s.1 texts)
+
+-- so it is with the sizes from one place on, and with the buffers from two others on
+abbrev pub AreSizesFrom : ℕ → ℕ → ℕ → List (ℕ × ℕ) → List ℕ → List ℕ → Type 0
+AreSizesFrom taken line_start text_start sizes lines texts = (taken ≤ length sizes) × (line_start ≤ length lines) × (text_start ≤ length texts) × AreSizesOf (drop taken sizes) (drop line_start lines) (drop text_start texts)
 
 -- ---- a look
 -- a session has looked at the head: its pass may have seen more, none of it its own, and no mark

@@ -1,4 +1,4 @@
--- What a command makes of a session over a pass, and with what reply.
+-- The result of a command for a session over a pass, and with what reply.
 use Rattle.std.specs.Prelude.{◌≡◌, ◌⊎◌, ℕ, ◌≤◌, Bool, IsTrue, false, true, List, [], ◌++◌, Some, None, slice_index_or, Result, Ok, Err}
 use Rattle.jf_hash.specs.Maps.{Batch}
 use Rattle.jf_model.specs.Versions.{map_of}
@@ -52,7 +52,7 @@ pub record GivesFor (h : Timeline) (s : State) (own : Own) (c : Command) (e : En
   pub same : (command_answer_with (floor_in e) s own c).entry ≡ Some (timeless e)
   pub floor : HasFloor h s own e
 
--- ---- what a command makes of a session
+-- ---- the result of a command for a session
 -- the pass has seen more, and may hold other pins; each version that it announced more is the one that the command names
 pub record FollowsCommand (old new : Pass) (c : Command) : Type 0 where
   pub begins : StartsWith new.seen old.seen

@@ -19,7 +19,7 @@ use Rattle.jf_session.specs.declared.stop.Stop.TheVariants as stop
 abbrev pub RepliesWith : Start → Session → List ℕ → Session → List ℕ → Type 0
 RepliesWith start s line new text = (r : Answered) × HasReplied start s new line r × (text ≡ r.text)
 
--- what a line makes of a session, and the text of its reply, or why the session stops
+-- the result of a line for a session, and the text of its reply, or why the session stops
 abbrev pub Makes : Start → Session → List ℕ → Session → Result (List ℕ) Stop → Type 0
 Makes start s line new (Ok text) = RepliesWith start s line new text
 Makes start s line new (Err stop.DiskFault) = IsTry start s new line

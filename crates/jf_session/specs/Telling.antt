@@ -1,20 +1,23 @@
--- What a landing and a line are told as, in place of a reply.
+-- What is written for a landing and for a line, in place of a reply.
 use Rattle.std.specs.Prelude.{◌≡◌, ◌⊎◌, ℕ, ◌+◌, ◌-◌, Bool, true, false, List, [], ◌∷◌, ◌++◌, length, Some, Result, Ok, Err}
 use Rattle.jf_hash.specs.Maps.{Batch}
 use Rattle.jf_lead.specs.declared.block.LandingBlock.{LandingBlock}
 use Rattle.jf_lead.specs.Landings.{landings_text}
+use Rattle.jf_model.specs.declared.entries.Landing.TheVariants as landing
+use Rattle.jf_engine.specs.declared.landed.Landed.{Landed}
 use Rattle.jf_store.specs.declared.landed_chain.LandedChain.{LandedChain}
 use Rattle.jf_store.specs.Starts.{Start}
-use Rattle.jf_store.specs.Passes.{Pass}
+use Rattle.jf_store.specs.Passes.{Pass, HasLanded}
 use Rattle.jf_script.specs.declared.command.Command.{Command}
 use Rattle.jf_script.specs.declared.command.Command.TheVariants as command
 use Rattle.jf_script.specs.declared.command.Change.TheVariants as change
 use Rattle.jf_script.specs.declared.reply.Reply.{Reply}
-use Rattle.jf_history.specs.Sessions.{Session, IsTry, IsBroken, HasDoneNothing, seen_by}
+use Rattle.jf_script.specs.declared.reply.Reply.TheVariants as reply
+use Rattle.jf_history.specs.Sessions.{Session, seen_by}
 use Rattle.jf_session.specs.declared.stop.Stop.{Stop}
 use Rattle.jf_session.specs.declared.stop.Stop.TheVariants as stop
-use Rattle.jf_session.specs.Steps.{IsDoneAs, TriedFor, NotDone, StopsFor}
-use Rattle.jf_session.specs.Taking.{RepliesWith, AnswersLine}
+use Rattle.jf_session.specs.Steps.{IsDoneAs, TriedFor, NotDone, StopsFor, IsObeyed}
+use Rattle.jf_session.specs.Taking.{AnswersLine}
 use Rattle.jf_session.specs.Leading.{HasLandedMore, AreOfLast}
 
 -- ---- blocks
@@ -33,6 +36,18 @@ pub record TellsLandings (start : Start) (old new : Pass) (told told' : List ℕ
   pub blocks : List LandingBlock
   pub landed : HasLandedMore start old new blocks
   pub appended : told' ≡ told ++ landings_text blocks
+
+-- ---- a call that may land
+-- `commit` was done, and this landing of this batch, which was pending, is what it landed
+pub record HasLandedPending (start : Start) (old new : Session) (l : Landed) (batch : Batch) : Type 0 where
+  pub done : IsObeyed start old new (command.Change change.Commit) (Ok (reply.Commit l.version l.root))
+  pub pending : batch ≡ old.own.pending
+  pub landed : HasLanded start (landing.Direct batch) old.pass new.pass l
+
+-- a command was answered by this, and landed nothing
+pub record LandsNothing (start : Start) (old new : Session) (c : Command) (r : Result Reply Stop) : Type 0 where
+  pub obeyed : IsObeyed start old new c r
+  pub landed : HasLandedMore start old.pass new.pass []
 
 -- ---- a command
 -- the commands that land
@@ -63,7 +78,7 @@ pub record DoesUntold (start : Start) (old new : Session) (c : Command) : Type 0
   pub landed : HasLandedMore start old.pass new.pass blocks
   pub last : AreOfLast start.state (seen_by new.pass) blocks
 
--- a command was done, its reply is dropped, and what it landed is told; or why not, and nothing is told. If memory ran out, the command was done or nothing was
+-- a command was done, its reply is dropped, and what it landed is written; or why not, and nothing is written. If memory ran out, the command was done or nothing was
 abbrev pub IsLedAs : Start → Session → Session → Command → List ℕ → List ℕ → Result (Unit {0}) Stop → Type 0
 IsLedAs start old new c told told' (Ok done) = (r : Reply) × (lines : List ℕ) × IsDoneAs start old new c r lines × (new.over ≡ false) × TellsLandings start old.pass new.pass told told'
 IsLedAs start old new c told told' (Err stop.DiskFault) = TriedFor start old new c × (told' ≡ told)
@@ -71,21 +86,6 @@ IsLedAs start old new c told told' (Err stop.Broken) = StopsFor start old new c 
 IsLedAs start old new c told told' (Err stop.Memory) = (NotDone old new c ⊎ DoesUntold start old new c) × (told' ≡ told)
 
 -- ---- a line
--- a line was replied to, and neither its reply nor what it landed is told
-pub record RepliesUntold (start : Start) (s : Session) (line : List ℕ) (new : Session) : Type 0 where
-  pub text : List ℕ
-  pub replied : RepliesWith start s line new text
-  pub blocks : List LandingBlock
-  pub landed : HasLandedMore start s.pass new.pass blocks
-  pub last : AreOfLast start.state (seen_by new.pass) blocks
-
--- a line was done, its reply is dropped, and what it landed is told; or why not, and nothing is told
-abbrev pub IsLedLine : Start → Session → Session → List ℕ → List ℕ → List ℕ → Result (Unit {0}) Stop → Type 0
-IsLedLine start old new line told told' (Ok done) = (text : List ℕ) × RepliesWith start old line new text × (new.over ≡ false) × TellsLandings start old.pass new.pass told told'
-IsLedLine start old new line told told' (Err stop.DiskFault) = IsTry start old new line × (told' ≡ told)
-IsLedLine start old new line told told' (Err stop.Broken) = IsBroken old new line × (told' ≡ told)
-IsLedLine start old new line told told' (Err stop.Memory) = (HasDoneNothing old new line ⊎ RepliesUntold start old line new) × (told' ≡ told)
-
 -- the pass of a session has landed these blocks more
 abbrev pub LandsMore : Session → Session → List LandingBlock → Type 0
 LandsMore s new blocks = (start : Start) × (s.pass.start ≡ Some start) × HasLandedMore start s.pass new.pass blocks
@@ -94,7 +94,7 @@ LandsMore s new blocks = (start : Start) × (s.pass.start ≡ Some start) × Has
 abbrev pub LandsLast : Session → Session → List LandingBlock → Type 0
 LandsLast s new blocks = (start : Start) × (s.pass.start ≡ Some start) × HasLandedMore start s.pass new.pass blocks × AreOfLast start.state (seen_by new.pass) blocks
 
--- what a line makes of a session that leads, and the text of what it landed, or why the session stops. Only if memory ran out something may have landed then
+-- the result of a line for a session that leads, and the text of what it landed, or why the session stops. Only if memory ran out something may have landed then
 abbrev pub LeadsLine : Session → List ℕ → Session → Result (List ℕ) Stop → Type 0
 LeadsLine s line new (Ok told) = (text : List ℕ) × (blocks : List LandingBlock) × AnswersLine s line new (Ok text) × LandsMore s new blocks × (told ≡ landings_text blocks)
 LeadsLine s line new (Err stop.DiskFault) = AnswersLine s line new (Err stop.DiskFault) × LandsMore s new []

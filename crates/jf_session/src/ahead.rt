@@ -4,7 +4,7 @@ ghost use Rattle.std.specs.List.{AllByRecursion};
 ghost use Rattle.jf_hash.specs.Maps.{Map};
 ghost use Rattle.jf_session.specs.PreparedReplies.{AsksHead, ArePreparedFor};
 
-use crate::prepared_reply::{PreparedReply, head_question, prepare_part};
+use crate::prepared_reply::{PART, PreparedReplies, head_question, prepare_part};
 use jf_io::first_line_feed;
 use jf_join::{FreeGate, Workers, join_pieces};
 use jf_node::Snapshot;
@@ -14,11 +14,16 @@ use jf_text::{is_word, split_word};
 use std::alloc::Global;
 use std::thread::Threads;
 
-// So many lines make a part, and a `chunk`, whose reply may be long, makes one by itself.
-const PART: u64 = 64;
+// At most so many parts are prepared at once, and at most lines of so much weight, as far as whole parts go.
+const PARTS: u64 = 64;
 
-// At most so many parts are prepared at once.
-const PARTS: u64 = 16;
+const MOST: u64 = 4096;
+
+// A `chunk`, whose reply may have megabytes, makes a part by itself, and at most sixteen are prepared at once.
+const CHUNK: u64 = 256;
+
+// A `prove` takes about as long as so many shorter reads.
+const PROOF: u64 = 4;
 
 // After fewer lines than this it takes longer to start workers than to answer the lines.
 const FEWEST: u64 = 100;
@@ -51,12 +56,12 @@ pub(crate) fn prepare_run<H: Threads + Sync>(
     seen: u64,
     text: &[u8],
     workers: Workers,
-) -> Vec<PreparedReply>
-    ensures { ArePreparedFor head.now.map seen result.items }
+) -> PreparedReplies
+    ensures { ArePreparedFor head.now.map seen result }
 {
     match prepare_parts(rt, alloc, head, seen, text, workers) {
         Ok(parts) => joined(alloc, parts),
-        Err(Memory) => Vec::new(alloc),
+        Err(Memory) => PreparedReplies::new(alloc),
     }
 }
 
@@ -68,23 +73,25 @@ fn prepare_parts<H: Threads + Sync>(
     seen: u64,
     text: &[u8],
     workers: Workers,
-) -> Result<Vec<Vec<PreparedReply>>, Memory>
-    ensures { IfOk result (λ parts. AllByRecursion (λ part. ArePreparedFor head.now.map seen part.items) parts.items) }
+) -> Result<Vec<PreparedReplies>, Memory>
+    ensures { IfOk result (λ parts. AllByRecursion (λ part. ArePreparedFor head.now.map seen part) parts.items) }
 {
     let parts = parts_of(alloc, text)?;
-    let prepare = |part: &&[u8]| -> Vec<PreparedReply>
-        ensures { ArePreparedFor head.entry.now.map seen result.items }
+    let prepare = |part: &&[u8]| -> PreparedReplies
+        ensures { ArePreparedFor head.entry.now.map seen result }
     { prepare_part(alloc, head, seen, part) };
     join_pieces(rt, alloc, &parts, workers, &FreeGate, &prepare)
 }
 
 // The replies of all parts, in order. If memory runs out, those of the first parts.
-fn joined(alloc: Global, parts: Vec<Vec<PreparedReply>>) -> Vec<PreparedReply>
-    ensures { (m : Map) (n : ℕ) → AllByRecursion (λ part. ArePreparedFor m n part.items) parts.items → ArePreparedFor m n result.items }
+fn joined(alloc: Global, parts: Vec<PreparedReplies>) -> PreparedReplies
+    ensures { (m : Map) (n : ℕ) → AllByRecursion (λ part. ArePreparedFor m n part) parts.items → ArePreparedFor m n result }
 {
-    let mut prepared = Vec::new(alloc);
-    for mut part in parts {
-        if prepared.append(&mut part).is_err() {
+    let Ok(mut prepared) = PreparedReplies::with_room_for(alloc, &parts) else {
+        return PreparedReplies::new(alloc);
+    };
+    for part in parts {
+        if prepared.append(&part).is_err() {
             return prepared;
         }
     }
@@ -95,13 +102,18 @@ fn joined(alloc: Global, parts: Vec<Vec<PreparedReply>>) -> Vec<PreparedReply>
 fn parts_of(alloc: Global, text: &[u8]) -> Result<Vec<&[u8]>, Memory> {
     let mut parts = Vec::new(alloc);
     let mut start = 0;
+    let mut left = MOST;
     for _part in 0..PARTS {
-        let (end, _) = front_of_reads(&text[start..], PART);
+        let (end, weight) = front_of_reads(&text[start..], PART);
         if end == 0 {
             return Ok(parts);
         }
         parts.push(&text[start..start + end])?;
         start += end;
+        if weight >= left {
+            return Ok(parts);
+        }
+        left -= weight;
     }
     Ok(parts)
 }
@@ -131,7 +143,7 @@ fn front_of_reads(text: &[u8], enough: u64) -> (usize, u64)
 
 // How much a line that reads the head, told by its first words, adds to a part; of any other line nothing.
 fn line_weight(line: &[u8]) -> u64
-    ensures { result ≤ 64 }
+    ensures { result ≤ 256 }
 {
     let (word, rest) = split_word(line);
     let Some(rest) = rest else {
@@ -141,5 +153,11 @@ fn line_weight(line: &[u8]) -> u64
     if !is_word(base, b"head") || is_word(word, b"fork") {
         return 0;
     }
-    if is_word(word, b"chunk") { PART } else { 1 }
+    if is_word(word, b"chunk") {
+        CHUNK
+    } else if is_word(word, b"prove") {
+        PROOF
+    } else {
+        1
+    }
 }

@@ -1,4 +1,4 @@
-// A script from a source, run for what it lands, which is told into a sink.
+// A script from a source, run for what it lands, which is written into a sink.
 ghost use Rattle.std.specs.Prelude.{◌≡◌, ◌≢◌, ◌≤◌, false, true};
 ghost use Rattle.jf_path.specs.Faults.{HasCause};
 ghost use Rattle.jf_store.specs.Events.{is_marked};

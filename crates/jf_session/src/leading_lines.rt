@@ -1,9 +1,9 @@
-// A line is done as by `Session::step`; its reply is dropped, and what it lands is told.
+// A line is done as by `Session::step`; its reply is dropped, and what it lands is written.
 ghost use Rattle.std.specs.Prelude.{◌≡◌, ℕ, List, false};
 ghost use Rattle.jf_script.specs.Bounds.{IsBoundedCommand};
 ghost use Rattle.jf_store.specs.Passes.{IsPassOf};
 ghost use Rattle.jf_session.specs.Steps.{IsRunningOn};
-ghost use Rattle.jf_session.specs.Telling.{is_landing, IsLedAs, IsLedLine, DoesLeading};
+ghost use Rattle.jf_session.specs.Telling.{is_landing, IsLedAs, DoesLeading};
 
 use crate::session::Session;
 use crate::stop::Stop;
@@ -35,7 +35,20 @@ impl<D: Disk> Session<D> {
         requires over { self.old.over ≡ false }
         ensures { DoesLeading self.old line.now told.old result self.new told.new }
     {
-        let led = self.do_leading_line(rt, alloc, store, line, workers, gate, told);
+        self.know();
+        self.know_own(store);
+        self.know_events(store);
+        let command = match read_line(alloc, line) {
+            Ok(command) => command,
+            Err(LineFault::Syntax) => return Ok(()),
+            Err(LineFault::LineTooLong) => return Ok(()),
+            Err(LineFault::Memory) => {
+                self.stop();
+                return Err(Stop::Memory);
+            }
+        };
+        let led = self.led_as(rt, alloc, store, command, workers, gate, told);
+        self.know_own(store);
         self.know_events(store);
         match led {
             Ok(()) => Ok(()),
@@ -44,33 +57,6 @@ impl<D: Disk> Session<D> {
                 Err(why)
             }
         }
-    }
-
-    // Does a line, and appends the blocks of what it lands.
-    fn do_leading_line<H: Threads + Wait + Sync, G: Gate>(
-        &mut self,
-        rt: &H,
-        alloc: Global,
-        store: &Store<D>,
-        line: &[u8],
-        workers: Workers,
-        gate: &G,
-        told: &mut Bytes,
-    ) -> Result<(), Stop>
-        requires { IsRunningOn self.old store.now }
-        ensures { IsLedLine store.now.start self.old self.new line.now told.old told.new result }
-    {
-        self.know();
-        self.know_own(store);
-        let command = match read_line(alloc, line) {
-            Ok(command) => command,
-            Err(LineFault::Syntax) => return Ok(()),
-            Err(LineFault::LineTooLong) => return Ok(()),
-            Err(LineFault::Memory) => return Err(Stop::Memory),
-        };
-        let led = self.led_as(rt, alloc, store, command, workers, gate, told);
-        self.know_own(store);
-        led
     }
 
     // Does a command, and appends the blocks of what it lands.

@@ -7,7 +7,7 @@ ghost use Rattle.jf_session.specs.Steps.{IsRunningOn};
 ghost use Rattle.jf_session.specs.Taking.{DoesLine};
 
 use crate::ahead::{prepare_run, question_ahead};
-use crate::prepared_reply::PreparedReply;
+use crate::prepared_reply::PreparedReplies;
 use crate::session::Session;
 use crate::stop::Stop;
 use crate::taking::{Shows, answer_line};
@@ -21,12 +21,10 @@ use std::marker::Model;
 use std::sync::Wait;
 use std::thread::Threads;
 
-// A session, and the replies to lines that may come next, with the number of those that were taken. Each was made over all
-// that the session's pass has seen.
+// A session, and the replies to lines that may come next. Each was made over all that the session's pass has seen.
 pub(crate) struct Preparing<D: Disk> {
     session: Session<D>,
-    prepared: Vec<PreparedReply>,
-    next: usize,
+    prepared: PreparedReplies,
 }
 
 impl<D: Disk> Model for Preparing<D> {
@@ -41,7 +39,7 @@ impl<D: Disk> Model for Preparing<D> {
 
     ghost view = { λ p. p.session };
 
-    ghost invariant = { λ p. ArePreparedAt p.session.pass p.prepared.items };
+    ghost invariant = { λ p. ArePreparedAt p.session.pass p.prepared };
 }
 
 impl<D: Disk> Shows for Preparing<D> {
@@ -55,8 +53,7 @@ impl<D: Disk> Preparing<D> {
     {
         Preparing {
             session,
-            prepared: Vec::new(alloc),
-            next: 0,
+            prepared: PreparedReplies::new(alloc),
         }
     }
 
@@ -67,7 +64,6 @@ impl<D: Disk> Preparing<D> {
         let Preparing {
             session,
             prepared: _,
-            next: _,
         } = self;
         session.end()
     }
@@ -81,15 +77,15 @@ impl<D: Disk> Preparing<D> {
         self.session.know();
         self.session.know_own(store);
         self.session.know_events(store);
-        let Some(reply) = self.prepared.get(self.next) else {
+        let Some((prepared_line, text)) = self.prepared.first() else {
             return false;
         };
-        if reply.line.as_slice() != line {
+        if prepared_line != line {
             return false;
         }
-        match out.append(reply.text.as_slice()) {
+        match out.append(text) {
             Ok(()) => {
-                self.next += 1;
+                self.prepared.drop_first();
                 true
             }
             Err(Memory) => false,
@@ -111,8 +107,7 @@ impl<D: Disk> Preparing<D> {
         requires bounded { IsBoundedQuestion question }
         ensures { (line : List ℕ) → AsksHead line question → DoesLine self.old line out.old result self.new out.new }
     {
-        self.prepared = Vec::new(alloc);
-        self.next = 0;
+        self.prepared = PreparedReplies::new(alloc);
         match self.session.answer_by_look(rt, alloc, store, question, out) {
             Ok(look) => {
                 let seen = self.session.seen_count();
@@ -147,7 +142,7 @@ pub(crate) fn attend<D: Disk, H: Threads + Wait + Sync, G: Gate>(
         Some(question) => { session.answer_ahead(rt, alloc, store, question, after, workers, out) }
         None => {
             // The pass may see more now.
-            session.prepared.clear();
+            session.prepared = PreparedReplies::new(alloc);
             answer_line(
                 rt,
                 alloc,

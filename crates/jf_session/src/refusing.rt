@@ -1,4 +1,4 @@
-// A fault of the store is told in a reply, or ends the session.
+// A fault of the store is reported in a reply, or ends the session.
 ghost use Rattle.std.specs.Prelude.{◌≡◌};
 ghost use Rattle.jf_session.specs.Refusing.{refusal_or_stop, TellsFault};
 
@@ -6,7 +6,7 @@ use crate::stop::Stop;
 use jf_script::{Refusal, Reply};
 use jf_store::StoreFault;
 
-// The refusal that a fault of the store is told as, or why the session ends.
+// The refusal that a fault of the store is reported as, or why the session ends.
 fn refusal_or_stop(fault: StoreFault) -> Result<Refusal, Stop>
     ensures { result ≡ refusal_or_stop fault }
 {

@@ -1,4 +1,4 @@
-// A landing is told by its blocks, in place of its reply.
+// A landing is written as its blocks, in place of its reply.
 ghost use Rattle.std.specs.Prelude.{◌≡◌, ◌+◌, ◌-◌, ◌<◌, ◌≤◌, ◌^◌, ◌++◌, length, OnOk, OnErr, IfErr};
 ghost use Rattle.std.specs.List.{AllByRecursion};
 ghost use Rattle.jf_text.specs.Words.{Extends};
@@ -39,19 +39,12 @@ impl<D: Disk> Session<D> {
         requires { IsRunningOn self.old store.now }
         ensures { IsLedAs store.now.start self.old self.new (command.Change change.Commit) told.old told.new result }
     {
-        let batch = match self.pending.batch(alloc) {
-            Ok(batch) => batch,
-            Err(Memory) => return Err(Stop::Memory),
-        };
-        let landed = self.pass.commit(rt, alloc, store, &batch, workers, gate);
-        self.pass.know(store);
-        match landed {
-            Ok(landed) => {
-                self.pending.clear();
+        match self.land_pending(rt, alloc, store, workers, gate) {
+            Ok((landed, batch)) => {
                 let root = landed.root;
                 tell_block(landed.version, &root, &batch, told)
             }
-            Err(fault) => untold(refusal_reply(fault, &mut self.over)),
+            Err(refused) => untold(refused),
         }
     }
 

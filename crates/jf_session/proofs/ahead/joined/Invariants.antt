@@ -6,4 +6,4 @@ use Rattle.jf_session.specs.PreparedReplies.{ArePreparedFor}
 use Rattle.jf_session.proofs.ahead.joined.Given as goal
 
 abbrev pub invariant-loop-part : goal.invariant-loop-part
-invariant-loop-part l = (m : Map) (n : ℕ) → AllByRecursion (λ part. ArePreparedFor m n part.items) l.fn.parts.items → ArePreparedFor m n l.prepared.items × AllByRecursion (λ part. ArePreparedFor m n part.items) l.part-iterator.rest.items
+invariant-loop-part l = (m : Map) (n : ℕ) → AllByRecursion (λ part. ArePreparedFor m n part) l.fn.parts.items → ArePreparedFor m n l.prepared × AllByRecursion (λ part. ArePreparedFor m n part) l.part-iterator.rest.items

@@ -9,5 +9,5 @@ pub returns : goal.returns
 returns g c =
     let m = c.args.head.now.map in
     let n = c.args.seen in
-    IfOk-weaker c.join_pieces.result _ (λ parts. AllByRecursion (λ part. ArePreparedFor m n part.items) parts.items)
-    (λ parts answers. All-zip (λ part. ArePreparedFor m n part.items) _ _ (AnswersEach-pairs answers (λ x part. ArePreparedFor m n part.items) (λ x part h. h.says.met))) c.join_pieces.ensures
+    IfOk-weaker c.join_pieces.result _ (λ parts. AllByRecursion (λ part. ArePreparedFor m n part) parts.items)
+    (λ parts answers. All-zip (λ part. ArePreparedFor m n part) _ _ (AnswersEach-pairs answers (λ x part. ArePreparedFor m n part) (λ x part h. h.says.met))) c.join_pieces.ensures

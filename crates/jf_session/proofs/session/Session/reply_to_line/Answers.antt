@@ -9,7 +9,7 @@ returns-in-Err-Syntax-clause-ok g c =
 
 pub returns-in-Err-LineTooLong-clause-ok : goal.returns-in-Err-LineTooLong-clause-ok
 returns-in-Err-LineTooLong-clause-ok g c =
-    long_replied _ c.args.self.now c.args.line.now c.args.block.now c.know_own.ensures.pins c.know.ensures c.requires.over (c.in-Err-LineTooLong.ensures.long.0 (ap (λ e. Err e) c.in-Err-LineTooLong.field-0-is))
+    long_replied _ c.args.self.now c.args.line.now c.args.block.now c.know_own.ensures.pins c.know.ensures c.requires.over (c.in-Err-LineTooLong.ensures.too_long.0 (ap (λ e. Err e) c.in-Err-LineTooLong.field-0-is))
 
 pub reply_to_command-done-requires-clause-bounded : goal.reply_to_command-done-requires-clause-bounded
 reply_to_command-done-requires-clause-bounded g c = λ κs le. command_of-IsBoundedCommand c.args.line.now _ c.in-Ok.ensures.found
