@@ -20,7 +20,7 @@ returns-clause-kept g c = λ rest source_faults missing before head begun dated 
           subst (λ k. IsTold c.trim.result c.match-trim.status (text old) (text k) (faults old) (faults k)) (sym w.sink-is)
           (subst (λ s. IsTold c.trim.result s (text old) (text w.tell_trimmed-status.new.sink) (faults old) (faults w.tell_trimmed-status.new.sink)) (sym w.status-is)
           (subst (λ how. IsTold how w.tell_trimmed-status.result (text old) (text w.tell_trimmed-status.new.sink) (faults old) (faults w.tell_trimmed-status.new.sink)) (sym w.in-Ok.is)
-          (line_told w.in-Ok.trimmed w.tell_trimmed-status.result (text old) (text w.tell_trimmed-status.new.sink) (faults old) (faults w.tell_trimmed-status.new.sink) told.told (λ e. ap faults (told.silent e)) told.cause told.counts)))
+          (line_told w.in-Ok.trimmed w.tell_trimmed-status.result (text old) (text w.tell_trimmed-status.new.sink) (faults old) (faults w.tell_trimmed-status.new.sink) told.written (λ e. ap faults (told.silent e)) told.cause told.counts)))
       | in-Err w ↦ subst (λ k. IsTold c.trim.result c.match-trim.status (text old) (text k) (faults old) (faults k)) (sym w.sink-is)
           (subst (λ s. IsTold c.trim.result s (text old) (text old) (faults old) (faults old)) (sym (w.status-is ∙ w.of_refusal-status.ensures ∙ ap status_of_refusal w.from.ensures))
           (subst (λ how. IsTold how (status_of_refusal (of_pair w.in-Err.why)) (text old) (text old) (faults old) (faults old)) (sym w.in-Err.is) (untrimmed_told w.in-Err.why (text old) (faults old))))
