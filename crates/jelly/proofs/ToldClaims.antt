@@ -6,7 +6,7 @@ use Rattle.std.proofs.lemmas.Option.{none-some, same_Some}
 use Rattle.std.proofs.lemmas.Bool.Decides.{nat_tests, leb_tells}
 use Rattle.std.proofs.lemmas.List.{length-take-le, take-append-drop}
 use Rattle.jf_ask.specs.Lookups.{lookup_number}
-use Rattle.jelly.specs.Answers.{LookupResult, IsAnswer, told_claim, value_number, filled_room}
+use Rattle.jelly.specs.Answers.{LookupResult, IsAnswer, claim_of_number, value_number, filled_room}
 
 -- ---- a value that fits, or doesn't
 pub value_number-fits : (room v : List ℕ) → length v ≤ length room → value_number room v ≡ 0
@@ -32,25 +32,25 @@ filled (Some k) room room' v within is rest =
 
 -- ---- what was shown
 -- what is said after a value that fits, and after one that doesn't
-told_claim-fits : (room v : List ℕ) → length v ≤ length room → told_claim (filled_room room v) (length v) (value_number room v) ≡ Some (Some v)
-told_claim-fits room v fits = rw (value_number-fits room v fits, filled_room-fits room v fits) (ap (λ (x : List ℕ). Some (Some x)) (take-append_seam v (drop (length v) room)))
+claim_of_number-fits : (room v : List ℕ) → length v ≤ length room → claim_of_number (filled_room room v) (length v) (value_number room v) ≡ Some (Some v)
+claim_of_number-fits room v fits = rw (value_number-fits room v fits, filled_room-fits room v fits) (ap (λ (x : List ℕ). Some (Some x)) (take-append_seam v (drop (length v) room)))
 
-told_claim-wide : (room v : List ℕ) (n : ℕ) → length room < length v → told_claim (filled_room room v) n (value_number room v) ≡ None
-told_claim-wide room v n wide = rw (value_number-wide room v wide) refl
+claim_of_number-wide : (room v : List ℕ) (n : ℕ) → length room < length v → claim_of_number (filled_room room v) n (value_number room v) ≡ None
+claim_of_number-wide room v n wide = rw (value_number-wide room v wide) refl
 
 -- nothing is said after a refusal
-told_claim-refused : (room : List ℕ) (n k : ℕ) → told_claim room n (16 + k) ≡ None
-told_claim-refused room n k = grind (arith, nat_tests)
+claim_of_number-refused : (room : List ℕ) (n k : ℕ) → claim_of_number room n (16 + k) ≡ None
+claim_of_number-refused room n k = grind (arith, nat_tests)
 
 -- what an answer says was shown
-pub told_claim-shown : (shown : LookupResult) (room room' : List ℕ) (n n' number : ℕ) (claim : Option (List ℕ)) → IsAnswer shown room room' n n' number → told_claim room' n' number ≡ Some claim → shown ≡ Ok claim
-told_claim-shown (Err why) room room' n n' number claim answer is = absurd (none-some claim (sym (told_claim-refused room' n' (lookup_number why)) ∙ subst (λ k. told_claim room' n' k ≡ Some claim) answer.number_is is))
-told_claim-shown (Ok None) room room' n n' number claim answer is = ap Ok (same_Some None claim (subst (λ k. told_claim room' n' k ≡ Some claim) answer.number_is is))
-told_claim-shown (Ok (Some v)) room room' n n' number claim answer is =
-    let says : told_claim (filled_room room v) (length v) (value_number room v) ≡ Some claim = subst (λ k. told_claim (filled_room room v) (length v) k ≡ Some claim) answer.number_is (subst (λ r. told_claim r (length v) number ≡ Some claim) answer.room_is (subst (λ k. told_claim room' k number ≡ Some claim) answer.length_is is)) in
+pub claim_of_number-shown : (shown : LookupResult) (room room' : List ℕ) (n n' number : ℕ) (claim : Option (List ℕ)) → IsAnswer shown room room' n n' number → claim_of_number room' n' number ≡ Some claim → shown ≡ Ok claim
+claim_of_number-shown (Err why) room room' n n' number claim answer is = absurd (none-some claim (sym (claim_of_number-refused room' n' (lookup_number why)) ∙ subst (λ k. claim_of_number room' n' k ≡ Some claim) answer.number_is is))
+claim_of_number-shown (Ok None) room room' n n' number claim answer is = ap Ok (same_Some None claim (subst (λ k. claim_of_number room' n' k ≡ Some claim) answer.number_is is))
+claim_of_number-shown (Ok (Some v)) room room' n n' number claim answer is =
+    let says : claim_of_number (filled_room room v) (length v) (value_number room v) ≡ Some claim = subst (λ k. claim_of_number (filled_room room v) (length v) k ≡ Some claim) answer.number_is (subst (λ r. claim_of_number r (length v) number ≡ Some claim) answer.room_is (subst (λ k. claim_of_number room' k number ≡ Some claim) answer.length_is is)) in
     elim (leb_tells (length v) (length room)) [
-      | inl t ↦ ap Ok (same_Some (Some v) claim (sym (told_claim-fits room v t.1) ∙ says))
-      | inr t ↦ absurd (none-some claim (sym (told_claim-wide room v (length v) t.1) ∙ says))
+      | inl t ↦ ap Ok (same_Some (Some v) claim (sym (claim_of_number-fits room v t.1) ∙ says))
+      | inr t ↦ absurd (none-some claim (sym (claim_of_number-wide room v (length v) t.1) ∙ says))
     ]
 
 -- an answer of 2 says that a value was shown, and how long it is

@@ -7,7 +7,7 @@ use Rattle.jf_hash.specs.Roots.{root}
 use Rattle.jf_evidence.specs.Proofs.{honest}
 use Rattle.jf_evidence.specs.Inputs.{Collides}
 use Rattle.jf_blocks.specs.Blocks.{proof_lines}
-use Rattle.jf_blocks.specs.Laws.{IsTold}
+use Rattle.jf_blocks.specs.Laws.{FitsProofBlock}
 use Rattle.jf_ask.specs.Lookups.{lookup_clash, lookup_number, proof_line_text}
 use Rattle.jf_ask.specs.declared.lookup.LookupFault.{LookupFault}
 
@@ -51,13 +51,13 @@ pub record IsAnswer (shown : LookupResult) (room room' : List ℕ) (n n' number 
 
 -- ---- what follows
 -- what an answer says of a name: after 0 the value in the room, after 1 that there is none
-abbrev pub told_claim : List ℕ → ℕ → ℕ → Option (Option (List ℕ))
-told_claim room n number = if number == 0 then Some (Some (take n room)) else if number == 1 then Some None else None
+abbrev pub claim_of_number : List ℕ → ℕ → ℕ → Option (Option (List ℕ))
+claim_of_number room n number = if number == 0 then Some (Some (take n room)) else if number == 1 then Some None else None
 
 -- what is said under the root of a map is what the map says of the name, or two different lists with one SHA-256 are at hand
 abbrev pub IsSoundAsk : List ℕ → List ℕ → List ℕ → List ℕ → ℕ → ℕ → Type 0
 IsSoundAsk top name text room n number =
-    (m : Map) (claim : Option (List ℕ)) → IsMap m → root m ≡ top → told_claim room n number ≡ Some claim → claim ≢ get m (K name) → Collides (lookup_clash m name text)
+    (m : Map) (claim : Option (List ℕ)) → IsMap m → root m ≡ top → claim_of_number room n number ≡ Some claim → claim ≢ get m (K name) → Collides (lookup_clash m name text)
 
 -- after 2 the name has a value of the returned length in a map with the root, or two lists colliding in SHA-256 are at hand
 abbrev pub IsSoundRoom : List ℕ → List ℕ → List ℕ → ℕ → ℕ → Type 0
@@ -67,5 +67,5 @@ IsSoundRoom top name text n number =
 -- a map's own reply to `prove`, with any number or without `n ok`, is answered as what the map says of the name
 abbrev pub IsFairAsk : List ℕ → List ℕ → List ℕ → List ℕ → List ℕ → ℕ → ℕ → ℕ → Type 0
 IsFairAsk top name text room room' n n' answer =
-    (m : Map) (number : Option ℕ) → IsMap m → root m ≡ top → IsTold name (get m (K name)) (honest m (K name)) → IfSome number (λ i. i < 2 ^ 64)
+    (m : Map) (number : Option ℕ) → IsMap m → root m ≡ top → FitsProofBlock name (get m (K name)) (honest m (K name)) → IfSome number (λ i. i < 2 ^ 64)
     → text ≡ proof_line_text number (length (honest m (K name)).siblings) ++ proof_lines name (get m (K name)) (honest m (K name)) → IsAnswer (Ok (get m (K name))) room room' n n' answer

@@ -13,7 +13,7 @@ use jf_path::Memory;
 pub(crate) fn push_totals(hashes: &[Hash], hash: &Hash, inner: &mut Vec<Hash>) -> Result<(), Memory>
     requires { (front : List (List ℕ)) × (inner.old.items ≡ front ++ inner_totals hashes.now) }
     ensures ok { (front : List (List ℕ)) → inner.old.items ≡ front ++ inner_totals hashes.now → OnOk result (inner.new.items ≡ front ++ inner_totals (hashes.now ++ hash.now ∷ [])) }
-    ensures kept { take (length inner.old.items) inner.new.items ≡ inner.old.items }
+    ensures front { take (length inner.old.items) inner.new.items ≡ inner.old.items }
 {
     match hashes {
         [] => Ok(()),

@@ -21,7 +21,7 @@ use Rattle.jf_blocks.specs.Blocks.{proof_lines}
 use Rattle.jf_blocks.specs.Reading.{line_read, first_line_of, proof_block, word_after}
 use Rattle.jf_blocks.specs.declared.first.FirstLine.{FirstLine}
 use Rattle.jf_blocks.specs.declared.first.FirstLine.TheVariants as first
-use Rattle.jf_blocks.specs.Laws.{IsTold, BlocksAreReadBack, RepliesBeginBlocks}
+use Rattle.jf_blocks.specs.Laws.{FitsProofBlock, BlocksAreReadBack, RepliesBeginBlocks}
 use Rattle.jf_blocks.proofs.LinesJoined.{lines-join}
 use Rattle.jf_blocks.proofs.LinesReadBack.{line_read-join}
 use Rattle.jf_ask.specs.declared.lookup.LookupFault.TheVariants as fault
@@ -69,7 +69,7 @@ siblings-back line k e small =
     ap siblings_in e ∙ ap (λ (b : Bool). if b then Some k else None) fits
 
 module _ (back : BlocksAreReadBack) (begins : RepliesBeginBlocks) where
-  block-back : (number : Option ℕ) (name : List ℕ) (claim : Option (List ℕ)) (proof : Proof) → IfSome number (λ n. n < 2 ^ 64) → length proof.siblings ≤ 256 → IsTold name claim proof
+  block-back : (number : Option ℕ) (name : List ℕ) (claim : Option (List ℕ)) (proof : Proof) → IfSome number (λ n. n < 2 ^ 64) → length proof.siblings ≤ 256 → FitsProofBlock name claim proof
       → block_of (lines (proof_line_text number (length proof.siblings) ++ proof_lines name claim proof)) ≡ Some (name, claim, proof)
   unfolding block_of
   block-back number name claim proof small few is_told =

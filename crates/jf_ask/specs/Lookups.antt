@@ -13,7 +13,7 @@ use Rattle.jf_text.specs.Words.{unhex, line_text}
 use Rattle.jf_script.specs.Replies.{reply_text}
 use Rattle.jf_script.specs.declared.reply.Reply.TheVariants as reply
 use Rattle.jf_blocks.specs.Blocks.{proof_lines}
-use Rattle.jf_blocks.specs.Laws.{IsTold}
+use Rattle.jf_blocks.specs.Laws.{FitsProofBlock}
 use Rattle.jf_blocks.specs.Reading.{Block, Read, line_read, first_line_of, proof_block}
 use Rattle.jf_blocks.specs.declared.first.FirstLine.{FirstLine}
 use Rattle.jf_blocks.specs.declared.first.FirstLine.TheVariants as first
@@ -84,7 +84,7 @@ proof_line_text None siblings = line_text (codes "proof" ∷ decimal siblings �
 
 -- a map's own reply to `prove`, with any number or without `n ok`, shows what the map says of the name
 abbrev pub IsFairLookup : List ℕ → List ℕ → List ℕ → Type 0
-IsFairLookup top name text = (m : Map) (number : Option ℕ) → IsMap m → root m ≡ top → IsTold name (get m (K name)) (honest m (K name)) → IfSome number (λ n. n < 2 ^ 64)
+IsFairLookup top name text = (m : Map) (number : Option ℕ) → IsMap m → root m ≡ top → FitsProofBlock name (get m (K name)) (honest m (K name)) → IfSome number (λ n. n < 2 ^ 64)
     → text ≡ proof_line_text number (length (honest m (K name)).siblings) ++ proof_lines name (get m (K name)) (honest m (K name)) → lookup top name text ≡ Ok (get m (K name))
 
 -- so it is for all roots, names and texts

@@ -105,7 +105,7 @@ pub(crate) fn load_pin(board: &Board, seat: &mut Seat<(), View>, k: usize) -> u6
 pub(crate) fn lend(board: &Board, seat: &mut Seat<(), View>) -> Seat<(), View>
     requires own { seat.old.table_id ≡ board.now }
     requires place { IsPlaceSeat seat.old (place_of seat.old.me.0).number }
-    ensures seat { seat.new.table_id ≡ seat.old.table_id }
+    ensures rest { seat.new.table_id ≡ seat.old.table_id }
     ensures lent { (result.table_id ≡ seat.old.table_id) × (result.me ≡ seat.old.me) }
 {
     board.table.shared.split_seat::<Lend>(seat)

@@ -6,7 +6,7 @@ use Rattle.jf_frame.proofs.FramingLaws.{some_end}
 use Rattle.jf_pair.specs.Files.{is_begun}
 use Rattle.jf_check.specs.declared.numbers.SideNumbers.{SideNumbers}
 use Rattle.jf_check.specs.declared.side_check.SideCheck.TheVariants as side_check
-use Rattle.jf_check.specs.Sides.{shown_by, side_shown}
+use Rattle.jf_check.specs.Sides.{log_check, side_shown}
 
 -- records that take a byte end before the file does
 ends_within : (bytes : List ℕ) (rs : List Framed) → records bytes ≡ Ok rs → 0 < end_of rs → end_of rs < length bytes
@@ -23,7 +23,7 @@ parts_of true bytes rs n size numbers found behind within is =
     let b : length bytes - (end_of rs + 1) ≡ behind = cc in
     (sym s, λ some. (let lt = within (omega arith) in omega arith))
 
-add_up : (bytes : List ℕ) (x : Result (List Framed) ℕ) (size : ℕ) (numbers : Option SideNumbers) (found behind : ℕ) → records bytes ≡ x → shown_by (length bytes) x ≡ side_check.Whole size numbers found behind
+add_up : (bytes : List ℕ) (x : Result (List Framed) ℕ) (size : ℕ) (numbers : Option SideNumbers) (found behind : ℕ) → records bytes ≡ x → log_check (length bytes) x ≡ side_check.Whole size numbers found behind
     → (size ≡ length bytes) × (0 < found → size ≡ found + 1 + behind)
 add_up bytes (Err at) size numbers found behind held is = absurd (cc)
 add_up bytes (Ok rs) size numbers found behind held is = parts_of (is_begun rs) bytes rs _ size numbers found behind (ends_within bytes rs held) is

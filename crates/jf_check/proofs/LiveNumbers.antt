@@ -13,7 +13,7 @@ use Rattle.jf_check.specs.declared.numbers.SideNumbers.{SideNumbers}
 use Rattle.jf_check.specs.declared.side_check.SideCheck.{SideCheck}
 use Rattle.jf_check.specs.declared.side_check.SideCheck.TheVariants as side_check
 use Rattle.jf_check.specs.Numbers.{numbers_in}
-use Rattle.jf_check.specs.Sides.{shown_by, side_shown, numbers_shown}
+use Rattle.jf_check.specs.Sides.{log_check, side_shown, numbers_shown}
 use Rattle.jf_check.specs.Stores.{live_found}
 use Rattle.jf_check.proofs.LiveSides.{live_of_held, live_is, side_records, live_begun}
 use Rattle.jf_check.proofs.Telling.{led_told}
@@ -23,7 +23,7 @@ shown_if true c d is = refl
 shown_if false c d is = absurd (cc)
 
 -- an initialised side shows the numbers that its records tell
-numbers_of_begun : (size : ℕ) (rs : List Framed) → is_begun rs ≡ true → numbers_shown (shown_by size (Ok rs)) ≡ numbers_in rs
+numbers_of_begun : (size : ℕ) (rs : List Framed) → is_begun rs ≡ true → numbers_shown (log_check size (Ok rs)) ≡ numbers_in rs
 numbers_of_begun size rs begun = ap numbers_shown (shown_if (is_begun rs) (side_check.Whole size (numbers_in rs) (end_of rs) (size - (end_of rs + 1))) (side_check.Damaged size 0) begun)
 
 -- the numbers of versions in a generation
@@ -44,5 +44,5 @@ live_numbers spelling files v w stands live =
     let l = live_is h.a_records h.b_records w (sym (live_of_held files rs h) ∙ live) in
     let there : records (bytes_of w files) ≡ Ok rs = side_records files rs h w ∙ ap Ok (ap (λ s. records_of s h.a_records h.b_records) l.0 ∙ h.live) in
     let some : 0 < length rs = subst (λ xs. 0 < length xs) h.live l.1 in
-    ap (λ r. numbers_shown (shown_by (length (bytes_of w files)) r)) there ∙ numbers_of_begun (length (bytes_of w files)) rs (live_begun files rs h)
+    ap (λ r. numbers_shown (log_check (length (bytes_of w files)) r)) there ∙ numbers_of_begun (length (bytes_of w files)) rs (live_begun files rs h)
     ∙ led_to spelling (generation files) rs v some stands.leads (λ x xs is. generation_live files rs h ∙ ap generation_in is)

@@ -1,6 +1,6 @@
 // The numbers that the records of a side tell.
 ghost use Rattle.std.specs.Prelude.{◌≡◌};
-ghost use Rattle.jf_frame.specs.Framed.{lent_as};
+ghost use Rattle.jf_frame.specs.Framed.{framed_value};
 ghost use Rattle.jf_check.specs.Numbers.{checkpoint_numbers, numbers_after, numbers_by, numbers_in};
 
 use crate::first::{is_checkpoint, number_in};
@@ -39,7 +39,7 @@ pub(crate) fn numbers_in(log: &Log) -> Option<SideNumbers>
 
 // The numbers of a checkpoint; `None` if the record is none, or its payload ends before they do.
 fn checkpoint_numbers(first: FramedRef<'_>) -> Option<SideNumbers>
-    ensures { result ≡ checkpoint_numbers (lent_as first.entry) }
+    ensures { result ≡ checkpoint_numbers (framed_value first.entry) }
 {
     let payload = first.payload;
     if !is_checkpoint(first.kind) || payload.len() < 32 {
@@ -55,7 +55,7 @@ fn checkpoint_numbers(first: FramedRef<'_>) -> Option<SideNumbers>
 
 // The numbers after a later record; one of fewer than 8 bytes tells none.
 fn numbers_after(numbers: SideNumbers, later: FramedRef<'_>) -> SideNumbers
-    ensures { result ≡ numbers_after numbers (lent_as later.entry) }
+    ensures { result ≡ numbers_after numbers (framed_value later.entry) }
 {
     if later.payload.len() < 8 {
         return numbers;

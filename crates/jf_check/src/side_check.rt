@@ -3,7 +3,7 @@ ghost use Rattle.std.specs.Prelude.{◌≡◌, ◌<◌, ◌≤◌, ◌^◌, ◌-
 ghost use Rattle.jf_disk.specs.Disk.{content_on};
 ghost use Rattle.jf_disk.specs.Memory.{history_of};
 ghost use Rattle.jf_frame.specs.Framing.{end_of};
-ghost use Rattle.jf_check.specs.Sides.{shown_by, side_shown};
+ghost use Rattle.jf_check.specs.Sides.{log_check, side_shown};
 
 use crate::first::{end_of, is_begun};
 use crate::numbers::{SideNumbers, numbers_in};
@@ -40,16 +40,16 @@ pub(crate) fn side_shown(alloc: Global, disk: &mut MemDisk, side: Side) -> Resul
 {
     let size = disk.bytes(side).len() as u64;
     match Log::read_all(alloc, disk, side) {
-        Ok(log) => Ok(shown_by(size, &log)),
+        Ok(log) => Ok(log_check(size, &log)),
         Err(FrameFault::Damaged(offset)) => Ok(SideCheck::Damaged { size, offset }),
         Err(FrameFault::DiskFault | FrameFault::Memory) => Err(Memory),
     }
 }
 
 // What a file of so many bytes shows, by the records that were read.
-fn shown_by(size: u64, log: &Log) -> SideCheck
+fn log_check(size: u64, log: &Log) -> SideCheck
     requires { end_of log.now.records ≤ size - 1 }
-    ensures { result ≡ shown_by size (Ok log.now.records) }
+    ensures { result ≡ log_check size (Ok log.now.records) }
 {
     if !is_begun(log) {
         return SideCheck::Damaged { size, offset: 0 };

@@ -20,7 +20,7 @@ use Rattle.jf_blocks.specs.declared.first.FirstLine.TheVariants as first
 use Rattle.jf_blocks.proofs.BlocksReadBack.{left_out}
 use Rattle.jf_blocks.proofs.LinesJoined.{lines-join}
 use Rattle.jf_verify.specs.Openings.{opening_of}
-use Rattle.jf_client.specs.RunLaws.{Heard, answer_heard, text_heard, told_by, IsOther}
+use Rattle.jf_client.specs.RunLaws.{Heard, answer_heard, text_heard, verdict_with_block, IsOther}
 use Rattle.jf_client.proofs.Openings.{first_from, opening-none, number-many}
 use Rattle.jf_script.proofs.ReplyTexts.{all_plain-words, reply_words-front, reply_words-root, reply_words-proof}
 
@@ -97,22 +97,22 @@ no_first : (n : ℕ) (r : List ℕ) (rs : List (List ℕ)) → first_line_of (de
 no_first n r rs = ap (λ b. first_from (cond b (r ∷ rs) (decimal n ∷ codes "no" ∷ r ∷ rs))) (not_ok (number (decimal n)))
 
 -- a reply of which a judge says nothing is no root and no proof
-no_root : (r : Reply) (kind : List ℕ) (ws : List (List ℕ)) → IsInRange r → told_by r ≡ None → reply_words r ≡ codes "ok" ∷ kind ∷ ws → is_word kind (codes "root") ≡ false
-no_root r kind ws range untold e = elim (is_word kind (codes "root")) as (λ b. is_word kind (codes "root") ≡ b → b ≡ false) [
+no_root : (r : Reply) (kind : List ℕ) (ws : List (List ℕ)) → IsInRange r → verdict_with_block r ≡ None → reply_words r ≡ codes "ok" ∷ kind ∷ ws → is_word kind (codes "root") ≡ false
+no_root r kind ws range unjudged e = elim (is_word kind (codes "root")) as (λ b. is_word kind (codes "root") ≡ b → b ≡ false) [
   | false ↦ λ is. refl
   | true ↦ λ is.
       let same : kind ≡ codes "root" = (bytes_eq-Decides kind (codes "root")).0 is in
       let root = reply_words-root r ws range (e ∙ ap (λ (w : List ℕ). codes "ok" ∷ w ∷ ws) same) in
-      absurd (let both : None ≡ Some [] = sym untold ∙ ap told_by root in cc)
+      absurd (let both : None ≡ Some [] = sym unjudged ∙ ap verdict_with_block root in cc)
 ] refl
 
-no_proof : (r : Reply) (kind : List ℕ) (ws : List (List ℕ)) → IsInRange r → told_by r ≡ None → reply_words r ≡ codes "ok" ∷ kind ∷ ws → is_word kind (codes "proof") ≡ false
-no_proof r kind ws range untold e = elim (is_word kind (codes "proof")) as (λ b. is_word kind (codes "proof") ≡ b → b ≡ false) [
+no_proof : (r : Reply) (kind : List ℕ) (ws : List (List ℕ)) → IsInRange r → verdict_with_block r ≡ None → reply_words r ≡ codes "ok" ∷ kind ∷ ws → is_word kind (codes "proof") ≡ false
+no_proof r kind ws range unjudged e = elim (is_word kind (codes "proof")) as (λ b. is_word kind (codes "proof") ≡ b → b ≡ false) [
   | false ↦ λ is. refl
   | true ↦ λ is.
       let same : kind ≡ codes "proof" = (bytes_eq-Decides kind (codes "proof")).0 is in
       let proof = reply_words-proof r ws range (e ∙ ap (λ (w : List ℕ). codes "ok" ∷ w ∷ ws) same) in
-      absurd (let both : None ≡ Some (codes "accepted\n") = sym untold ∙ ap told_by proof in cc)
+      absurd (let both : None ≡ Some (codes "accepted\n") = sym unjudged ∙ ap verdict_with_block proof in cc)
 ] refl
 
 -- two words of which the first is none of these begin nothing
@@ -124,24 +124,24 @@ neither_from kind (w ∷ []) other another = ap₂ (λ (b c : Bool). elim (optio
 ]) other another
 neither_from kind (w ∷ v ∷ ws) other another = refl
 
-begun_with : (n : ℕ) (r : Reply) (b : Bool) (kind : List ℕ) (ws : List (List ℕ)) → n < 2 ^ 64 → told_by r ≡ None → IsInRange r
+begun_with : (n : ℕ) (r : Reply) (b : Bool) (kind : List ℕ) (ws : List (List ℕ)) → n < 2 ^ 64 → verdict_with_block r ≡ None → IsInRange r
     → reply_words r ≡ cond b (codes "no") (codes "ok") ∷ kind ∷ ws → first_line_of (decimal n ∷ reply_words r) ≡ None
-begun_with n r true kind ws small untold range e = ap (λ (v : List (List ℕ)). first_line_of (decimal n ∷ v)) e ∙ no_first n kind ws
-begun_with n r false kind ws small untold range e =
-    ap (λ (v : List (List ℕ)). first_line_of (decimal n ∷ v)) e ∙ ok_first n (kind ∷ ws) small (neither_from kind ws (no_root r kind ws range untold e) (no_proof r kind ws range untold e))
+begun_with n r true kind ws small unjudged range e = ap (λ (v : List (List ℕ)). first_line_of (decimal n ∷ v)) e ∙ no_first n kind ws
+begun_with n r false kind ws small unjudged range e =
+    ap (λ (v : List (List ℕ)). first_line_of (decimal n ∷ v)) e ∙ ok_first n (kind ∷ ws) small (neither_from kind ws (no_root r kind ws range unjudged e) (no_proof r kind ws range unjudged e))
 
-other_first : (n : ℕ) (r : Reply) → n < 2 ^ 64 → told_by r ≡ None → IsInRange r → first_line_of (decimal n ∷ reply_words r) ≡ None
-other_first n r small untold range = let front = reply_words-front r in begun_with n r (is_refusal r) front.0 front.1 small untold range front.2
+other_first : (n : ℕ) (r : Reply) → n < 2 ^ 64 → verdict_with_block r ≡ None → IsInRange r → first_line_of (decimal n ∷ reply_words r) ≡ None
+other_first n r small unjudged range = let front = reply_words-front r in begun_with n r (is_refusal r) front.0 front.1 small unjudged range front.2
 
-reply_lines_of : (n : ℕ) (r : Reply) → n < 2 ^ 64 → told_by r ≡ None → IsInRange r → AreLinesOf (reply_text n r) (join_with_byte 32 (decimal n ∷ reply_words r) ∷ [])
+reply_lines_of : (n : ℕ) (r : Reply) → n < 2 ^ 64 → verdict_with_block r ≡ None → IsInRange r → AreLinesOf (reply_text n r) (join_with_byte 32 (decimal n ∷ reply_words r) ∷ [])
 unfolding reply_text
-reply_lines_of n r small untold range = one_line_of (decimal n) (reply_words r) (is_plain-decimal n small) (all_plain-words r range) (number-many n small) (other_first n r small untold range)
+reply_lines_of n r small unjudged range = one_line_of (decimal n) (reply_words r) (is_plain-decimal n small) (all_plain-words r range) (number-many n small) (other_first n r small unjudged range)
 
 pub other_lines_of : (h : Heard) → h.number < 2 ^ 64 → IsOther h → (xs : List (List ℕ)) × AreLinesOf (text_heard h) xs
 other_lines_of h small o =
     let a = answer_heard h in
     let line : List (List ℕ) = join_with_byte 32 (decimal h.number ∷ reply_words a.reply) ∷ [] in
-    let first = reply_lines_of h.number a.reply small o.untold o.in_range in
+    let first = reply_lines_of h.number a.reply small o.unjudged o.in_range in
     elim o.block_is as (λ x. (xs : List (List ℕ)) × AreLinesOf (text_heard h) xs) [
       | inl none ↦ (line, subst (λ (t : List ℕ). AreLinesOf t line) (sym (append-nil (reply_text h.number a.reply)) ∙ ap (λ (b : List ℕ). reply_text h.number a.reply ++ b) (sym none)) first)
       | inr c ↦

@@ -33,7 +33,7 @@ use Rattle.jf_answers.specs.Refusals.{base_map}
 use Rattle.jf_answers.specs.Answers.{Answer, granted_answer, own_answer, read_answer}
 use Rattle.jf_answers.specs.Runs.{answer_text}
 use Rattle.jf_answers.proofs.AnswerLaws.{unrefused}
-use Rattle.jf_client.specs.RunLaws.{Heard, answer_heard, text_heard, told_by, syntax_lines, judged_from, question_in, map_in, Asks, AsksRoot, AsksProof, IsOther, AreHeardOn, IsAskedOf, WholeRunsAreJudged}
+use Rattle.jf_client.specs.RunLaws.{Heard, answer_heard, text_heard, verdict_with_block, syntax_lines, judged_from, question_in, map_in, Asks, AsksRoot, AsksProof, IsOther, AreHeardOn, IsAskedOf, WholeRunsAreJudged}
 use Rattle.jf_client.proofs.Told.{hash_of_key, honest-told}
 use Rattle.jf_client.proofs.Judged.{root_step, block_step, end_step, knows}
 use Rattle.jf_client.proofs.Replies.{answered}
@@ -107,7 +107,7 @@ module _ (back : BlocksAreReadBack) (begins : RepliesBeginBlocks) (sets : Replie
   AreAmong hs = (m : Map) → IsAskedOf hs m → asked m
 
   -- from a text of so many lines, and what is returned for it
-  told_more : (h : Heard) (hs : List Heard) (at many : ℕ) (told text : List ℕ) → many ≡ length (lines (text_heard h)) → unwrap_or (told_by (answer_heard h).reply) (syntax_lines at (length (lines (text_heard h)))) ≡ told → text ≡ judged_from (at + many) hs
+  told_more : (h : Heard) (hs : List Heard) (at many : ℕ) (told text : List ℕ) → many ≡ length (lines (text_heard h)) → unwrap_or (verdict_with_block (answer_heard h).reply) (syntax_lines at (length (lines (text_heard h)))) ≡ told → text ≡ judged_from (at + many) hs
       → told ++ text ≡ judged_from at (h ∷ hs)
   told_more h hs at many told text many_is told_is later = ap₂ (λ (t u : List ℕ). t ++ u) (sym told_is) (later ∙ ap (λ k. judged_from (at + k) hs) many_is)
 
@@ -132,7 +132,7 @@ module _ (back : BlocksAreReadBack) (begins : RepliesBeginBlocks) (sets : Replie
       ap (λ (ls : List (List ℕ)). verdicts_from (suc n) j (record { at = at; left = ls })) one.1
       ∙ root_step n at j one.0 (lines (texts hs)) (root m) one.2
       ∙ told_more h hs at 1 [] (verdicts_from n (record { root = Some (root m); claims = j.claims }) (record { at = at + 1; left = lines (texts hs) })) single
-      (ap (λ (x : Answer). unwrap_or (told_by x.reply) (syntax_lines at (length (lines (text_heard h))))) (root_text m h a))
+      (ap (λ (x : Answer). unwrap_or (verdict_with_block x.reply) (syntax_lines at (length (lines (text_heard h))))) (root_text m h a))
       (later (Some m) n (at + 1) (record { root = Some (root m); claims = j.claims }) more (record { set = record { root_is = refl; is_map = a.sound; among = among }; claims = claims }) (omega arith))
 
   -- ---- another reply
@@ -149,7 +149,7 @@ module _ (back : BlocksAreReadBack) (begins : RepliesBeginBlocks) (sets : Replie
       ap₂ (λ (f : ℕ) (ls : List (List ℕ)). verdicts_from f j (record { at = at; left = ls })) fuel all
       ∙ syntax_steps k at j xs (lines (texts hs)) of.1.none
       ∙ told_more h hs at (length xs) (syntax_lines at (length xs)) (verdicts_from k j (record { at = at + length xs; left = lines (texts hs) })) single
-      (ap (λ (r : Option (List ℕ)). unwrap_or r (syntax_lines at (length (lines (text_heard h))))) o.untold ∙ ap (syntax_lines at) (sym single))
+      (ap (λ (r : Option (List ℕ)). unwrap_or r (syntax_lines at (length (lines (text_heard h))))) o.unjudged ∙ ap (syntax_lines at) (sym single))
       (later last k (at + length xs) j more known (omega arith))
 
   -- ---- a proof
@@ -203,7 +203,7 @@ module _ (back : BlocksAreReadBack) (begins : RepliesBeginBlocks) (sets : Replie
         ∙ ap (λ (p : List ℕ × List Accepted). p.0 ++ verdicts_from n (knows (root m) p.1) place) here
         ∙ ap (λ q. codes "accepted\n" ++ verdicts_from n next (record { at = q; left = lines rest })) (let e : at + 1 + 3 + k ≡ at + (4 + k) = omega arith in e)
         ∙ told_more h hs at (4 + k) (codes "accepted\n") (verdicts_from n next (record { at = at + (4 + k); left = lines rest })) proof_alone
-        (ap (λ (y : Answer). unwrap_or (told_by y.reply) (syntax_lines at (length (lines (text_heard h))))) (proof_text m h a))
+        (ap (λ (y : Answer). unwrap_or (verdict_with_block y.reply) (syntax_lines at (length (lines (text_heard h))))) (proof_text m h a))
         (later last n (at + (4 + k)) next more
         (record { set = subst (λ (o : Option Map). IfSome o (IsSet next)) (sym is) (record { root_is = refl; is_map = is_map; among = among }); claims = all_more (IsOf asked) j.claims x claims (m, among, refl, refl) })
         (omega arith))

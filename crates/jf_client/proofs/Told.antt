@@ -13,7 +13,7 @@ use Rattle.jf_hash.specs.Hashes.{V, K}
 use Rattle.jf_hash.proofs.HashLaws.{V-IsKey}
 use Rattle.jf_hash.proofs.RootLaws.{root_below-IsKey}
 use Rattle.jf_evidence.specs.Proofs.{near, honest_below, far, leaves, honest, honest_from}
-use Rattle.jf_blocks.specs.Laws.{IsHash, IsTold}
+use Rattle.jf_blocks.specs.Laws.{IsHash, FitsProofBlock}
 use Rattle.jf_client.specs.Laws.{FitsLine}
 
 pub hash_of_key : (k : List ℕ) → IsKey k → IsHash k
@@ -85,7 +85,7 @@ unfolding honest honest_from
 honest-hashes m key = honest_siblings (256 - 0) 0 key (leaves m)
 
 -- ---- all of it
-pub honest-told : (m : Map) (name : List ℕ) → IsMap m → FitsLine name (fin.get m (K name)) → IsTold name (fin.get m (K name)) (honest m (K name))
+pub honest-told : (m : Map) (name : List ℕ) → IsMap m → FitsLine name (fin.get m (K name)) → FitsProofBlock name (fin.get m (K name)) (honest m (K name))
 unfolding honest honest_from
 honest-told m name is_map fits = record {
   bytes = fits.bytes;

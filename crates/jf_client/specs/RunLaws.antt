@@ -44,10 +44,10 @@ text_heard h = answer_text h.number (answer_heard h)
 
 -- ---- what they are judged
 -- what a reply is judged with its block: nothing is said of one that sets the root, and one that begins a proof is accepted
-abbrev pub told_by : Reply → Option (List ℕ)
-told_by (reply.Root root) = Some []
-told_by (reply.Proof siblings) = Some (codes "accepted\n")
-told_by r = None
+abbrev pub verdict_with_block : Reply → Option (List ℕ)
+verdict_with_block (reply.Root root) = Some []
+verdict_with_block (reply.Proof siblings) = Some (codes "accepted\n")
+verdict_with_block r = None
 
 -- the line `syntax` for each of so many lines, from a number on
 abbrev pub syntax_lines : ℕ → ℕ → List ℕ
@@ -59,7 +59,7 @@ abbrev pub judged_from : ℕ → List Heard → List ℕ
 judged_from at [] = []
 judged_from at (h ∷ hs) =
     let many = length (lines (text_heard h)) in
-    unwrap_or (told_by (answer_heard h).reply) (syntax_lines at many) ++ judged_from (at + many) hs
+    unwrap_or (verdict_with_block (answer_heard h).reply) (syntax_lines at many) ++ judged_from (at + many) hs
 
 -- ---- lines that ask about maps, and others
 -- the question that a read asks
@@ -96,7 +96,7 @@ pub record AsksProof (m : Map) (h : Heard) : Type 0 where
 
 -- a line has another reply, with no block or with that of a chunk
 pub record IsOther (h : Heard) : Type 0 where
-  pub untold : told_by (answer_heard h).reply ≡ None
+  pub unjudged : verdict_with_block (answer_heard h).reply ≡ None
   pub in_range : IsInRange (answer_heard h).reply
   pub block_is : ((answer_heard h).block ≡ []) ⊎ ((es : Entries) × (proof : RangeProof) × IsChunkBlock es proof × ((answer_heard h).block ≡ chunk_lines es proof))
 

@@ -27,38 +27,38 @@ use Rattle.jf_diff.specs.Below.{IsBelow, IsStaleBelow, from_node}
 use Rattle.jf_diff.specs.OptionalNodes.{IsAtDepth, IsOfVersion}
 use Rattle.jf_diff.specs.Plains.{plain_at}
 use Rattle.jf_diff.specs.Tops.{IsStaleUnder}
-use Rattle.jf_diff.specs.Gone.{IsLaterSnapshot, gone_below, gone_node_in, gone_nodes, gone_under}
+use Rattle.jf_diff.specs.Gone.{IsLaterSnapshot, gone_node_below, gone_node_in, gone_nodes, gone_node_under}
 use Rattle.jf_diff.proofs.LandingLaws.{follows, top_placed, version_top}
 use Rattle.jf_diff.proofs.PlainNodes.{plain-child}
 use Rattle.jf_diff.proofs.Walks.{with_root-from_node}
 use Rattle.jf_diff.proofs.PathNames.{name_of_path}
 
 -- ---- one node
-pub gone_one : (since : ℕ) (front : Path) (x : LinkValue) (v : ℕ) (plain : PlainNode) (e : NodeName × PlainNode × ℕ) → v ≡ x.version → link_version_at [] (Some x) ≡ Some x.version → plain ≡ plain_at x [] → e ≡ (name_of_path v front, plain, since) → e ≡ gone_below since front x []
+pub gone_one : (since : ℕ) (front : Path) (x : LinkValue) (v : ℕ) (plain : PlainNode) (e : NodeName × PlainNode × ℕ) → v ≡ x.version → link_version_at [] (Some x) ≡ Some x.version → plain ≡ plain_at x [] → e ≡ (name_of_path v front, plain, since) → e ≡ gone_node_below since front x []
 gone_one since front x v plain e is own by_itself at =
     at ∙ ap₂ (λ n (p : PlainNode). (n, p, since)) (ap₂ (λ k q. name_of_path k q) (is ∙ ap version_or (sym own)) (sym (append-nil front))) by_itself
 
-pub gone_child : (since : ℕ) (front : Path) (x : LinkValue) (n : ℕ) (c : LinkValue) (front' : Path) → IsBelow x n (Some c) → front' ≡ front ++ n ∷ [] → (p : Path) → gone_below since front' c p ≡ gone_below since front x (n ∷ p)
+pub gone_child : (since : ℕ) (front : Path) (x : LinkValue) (n : ℕ) (c : LinkValue) (front' : Path) → IsBelow x n (Some c) → front' ≡ front ++ n ∷ [] → (p : Path) → gone_node_below since front' c p ≡ gone_node_below since front x (n ∷ p)
 gone_child since front x n c front' below at p =
     ap₂ (λ m (r : PlainNode). (m, r, since))
     (ap₂ (λ v q. name_of_path (version_or v) q) (sym (below.versions p)) (ap (λ q. q ++ p) at ∙ append_assoc front (n ∷ []) p))
     (sym (plain-child x n c p below))
 
 -- ---- from a top down
-pub gone_none : (since head : ℕ) (old top : Option LinkValue) (out now : List (NodeName × PlainNode × ℕ)) (name : NodeName) → old ≡ None → name ≡ name_of_path head [] → now ≡ out ++ (name, node.Null, since) ∷ [] → now ≡ out ++ with_root (content top) (content old) (gone_under since head old)
+pub gone_none : (since head : ℕ) (old top : Option LinkValue) (out now : List (NodeName × PlainNode × ℕ)) (name : NodeName) → old ≡ None → name ≡ name_of_path head [] → now ≡ out ++ (name, node.Null, since) ∷ [] → now ≡ out ++ with_root (content top) (content old) (gone_node_under since head old)
 gone_none since head old top out now name is named at =
     at ∙ ap (λ m. out ++ (m, node.Null, since) ∷ []) named
-    ∙ ap (λ l. out ++ l) (sym (with_root-gone (content top) (gone_under since head None)) ∙ ap (λ o. with_root (content top) (content o) (gone_under since head o)) (sym is))
+    ∙ ap (λ l. out ++ l) (sym (with_root-gone (content top) (gone_node_under since head None)) ∙ ap (λ o. with_root (content top) (content o) (gone_node_under since head o)) (sym is))
 
 pub gone_some : (since head : ℕ) (old top : Option LinkValue) (x : LinkValue) (front : Path) (out now : List (NodeName × PlainNode × ℕ)) → old ≡ Some x → IsAtDepth 0 old → IsOfVersion since top → front ≡ []
-    → (IsOfVersion since top → IsStaleBelow since x top → now ≡ out ++ from_node x.depth (content top) x.entries (gone_below since front x))
-    → IsStaleUnder since old top → now ≡ out ++ with_root (content top) (content old) (gone_under since head old)
+    → (IsOfVersion since top → IsStaleBelow since x top → now ≡ out ++ from_node x.depth (content top) x.entries (gone_node_below since front x))
+    → IsStaleUnder since old top → now ≡ out ++ with_root (content top) (content old) (gone_node_under since head old)
 gone_some since head old top x front out now is placed own bare listing under =
     listing own (subst (λ o. IsStaleUnder since o top) is under)
     ∙ ap (λ l. out ++ l) (
-    with_root-from_node (content top) x.depth x.entries (gone_under since head (Some x)) (gone_below since front x) _ (subst (IsAtDepth 0) is placed)
+    with_root-from_node (content top) x.depth x.entries (gone_node_under since head (Some x)) (gone_node_below since front x) _ (subst (IsAtDepth 0) is placed)
     (λ p. ap (λ q. (name_of_path (version_or (link_version_at p (Some x))) (q ++ p), plain_at x p, since)) bare) refl
-    ∙ ap (λ o. with_root (content top) (content o) (gone_under since head o)) (sym is))
+    ∙ ap (λ o. with_root (content top) (content o) (gone_node_under since head o)) (sym is))
 
 -- ---- the top of a later snapshot
 stale_over : (since : ℕ) (was top : Option LinkValue) → IsAtDepth 0 was
@@ -91,7 +91,7 @@ stale_all s was since sound at lt =
     (λ n p. older_version s was since n p sound at lt)
 
 -- ---- the nodes of a snapshot
-gone_at : (since head : ℕ) (top : Option LinkValue) (es : Part) (p : Path) → content top ≡ es → IsAtDepth 0 top → gone_under since head top p ≡ gone_node_in (snapshot_of head top) since (p, sub 0 p es)
+gone_at : (since head : ℕ) (top : Option LinkValue) (es : Part) (p : Path) → content top ≡ es → IsAtDepth 0 top → gone_node_under since head top p ≡ gone_node_in (snapshot_of head top) since (p, sub 0 p es)
 unfolding plain_node
 gone_at since head None es p is placed =
     let name = name_of_path (version_in (snapshot_of head None) p) p in
@@ -104,15 +104,15 @@ gone_at since head (Some y) es p is placed =
     ap₂ (λ d s. (name, plain_node true (λ i. version_in (snapshot_of head (Some y)) (p ++ i ∷ [])) d s, since)) depth part
 
 gone_each : (since head : ℕ) (old : Part) (s : SnapshotValue) (was : Option LinkValue) → head ≡ s.version → IsTopOf s was
-    → with_root old (content was) (gone_under since head was) ≡ with_root old (entries s.map) (λ p. gone_node_in s since (p, sub 0 p (entries s.map)))
+    → with_root old (content was) (gone_node_under since head was) ≡ with_root old (entries s.map) (λ p. gone_node_in s since (p, sub 0 p (entries s.map)))
 gone_each since head old s was own at =
-    let same : gone_under since head was ≡ (λ (p : Path). gone_node_in s since (p, sub 0 p (entries s.map))) =
+    let same : gone_node_under since head was ≡ (λ (p : Path). gone_node_in s since (p, sub 0 p (entries s.map))) =
     λ i p. (gone_at since head was (entries s.map) p (sym at.same) (top_placed s.version was at.top) ∙ ap (λ t. gone_node_in t since (p, sub 0 p (entries s.map))) (ap (λ v. snapshot_of v was) own ∙ sym at.value)) i in
     ap₂ (with_root old) (sym at.same) same
 
 -- what is listed from the top down are the nodes that the landing made stale
 pub gone_landed : (since head : ℕ) (old new : SnapshotValue) (was top : Option LinkValue) (out now : List (NodeName × PlainNode × ℕ)) → head ≡ old.version → since ≡ new.version → IsTopOf old was → IsTopOf new top
-    → now ≡ out ++ with_root (content top) (content was) (gone_under since head was) → now ≡ out ++ gone_nodes old.map new.map old new.version
+    → now ≡ out ++ with_root (content top) (content was) (gone_node_under since head was) → now ≡ out ++ gone_nodes old.map new.map old new.version
 gone_landed since head old new was top out now own own' at is made =
     made ∙ ap (λ l. out ++ l)
     (gone_each since head (content top) old was own at ∙ ap (λ es. with_root es (entries old.map) (λ p. gone_node_in old since (p, sub 0 p (entries old.map)))) (sym is.same)
@@ -128,7 +128,7 @@ nodes_listed m = nodes_below-IsListed 64 0 (entries m)
 
 -- what is listed from the top down over nothing are all nodes
 pub gone_all : (since head : ℕ) (s : SnapshotValue) (was : Option LinkValue) (out now : List (NodeName × PlainNode × ℕ)) → head ≡ s.version → IsTopOf s was
-    → now ≡ out ++ with_root [] (content was) (gone_under since head was) → now ≡ out ++ map (gone_node_in s since) (nodes s.map)
+    → now ≡ out ++ with_root [] (content was) (gone_node_under since head was) → now ≡ out ++ map (gone_node_in s since) (nodes s.map)
 gone_all since head s was out now own at made =
     made ∙ ap (λ l. out ++ l)
     (gone_each since head [] s was own at ∙ with_root-nodes s.map (λ p. gone_node_in s since (p, sub 0 p (entries s.map))) ∙ each_part s since (nodes s.map) (nodes_listed s.map))

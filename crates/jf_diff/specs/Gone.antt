@@ -29,9 +29,9 @@ abbrev pub gone_nodes : Map → Map → SnapshotValue → ℕ → List (NodeName
 gone_nodes old new head since = map (gone_node_in head since) (stale old new)
 
 -- a node at a path below x, if x stands at the path `front`, as stale since a version
-abbrev pub gone_below : ℕ → Path → LinkValue → Path → NodeName × PlainNode × ℕ
-gone_below since front x path = (name_below front x path, plain_at x path, since)
+abbrev pub gone_node_below : ℕ → Path → LinkValue → Path → NodeName × PlainNode × ℕ
+gone_node_below since front x path = (name_below front x path, plain_at x path, since)
 
 -- a node at a path below an optional top of the version `head`, as stale since a version
-abbrev pub gone_under : ℕ → ℕ → Option LinkValue → Path → NodeName × PlainNode × ℕ
-gone_under since head top path = (old_name head top path, plain_under top path, since)
+abbrev pub gone_node_under : ℕ → ℕ → Option LinkValue → Path → NodeName × PlainNode × ℕ
+gone_node_under since head top path = (old_name head top path, plain_under top path, since)

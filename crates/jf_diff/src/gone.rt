@@ -5,7 +5,7 @@ ghost use Rattle.jf_model.specs.Nodes.{nodes};
 ghost use Rattle.jf_model.specs.Walk.{with_root};
 ghost use Rattle.jf_node.specs.Children.{content};
 ghost use Rattle.jf_diff.specs.Below.{IsStaleBelow, from_node, listed_below};
-ghost use Rattle.jf_diff.specs.Gone.{IsLaterSnapshot, gone_below, gone_node_in, gone_nodes, gone_under};
+ghost use Rattle.jf_diff.specs.Gone.{IsLaterSnapshot, gone_node_below, gone_node_in, gone_nodes, gone_node_under};
 ghost use Rattle.jf_diff.specs.OptionalNodes.{IsAtDepth, IsOfVersion};
 ghost use Rattle.jf_diff.specs.Tops.{IsStaleUnder};
 
@@ -31,7 +31,7 @@ fn list_gone(
     requires new { IsAtDepth old.now.depth (option_copied new) }
     ensures front { take (length out.old.items) out.new.items ≡ out.old.items }
     ensures kept { OnOk result (¬ IsOfVersion version (option_copied new.entry) → out.new.items ≡ out.old.items) }
-    ensures listed { OnOk result (IsOfVersion version (option_copied new.entry) → IsStaleBelow version old.now (option_copied new.entry) → out.new.items ≡ out.old.items ++ from_node old.now.depth (content (option_copied new.entry)) old.now.entries (gone_below version path.now old.now)) }
+    ensures listed { OnOk result (IsOfVersion version (option_copied new.entry) → IsStaleBelow version old.now (option_copied new.entry) → out.new.items ≡ out.old.items ++ from_node old.now.depth (content (option_copied new.entry)) old.now.entries (gone_node_below version path.now old.now)) }
 {
     if is_kept(new, version) {
         return Ok(());
@@ -64,7 +64,7 @@ fn list_gone_at(
     requires path { length path.now ≡ old.now.depth }
     requires new { IsAtDepth old.now.depth (option_copied new) }
     ensures front { take (length out.old.items) out.new.items ≡ out.old.items }
-    ensures listed { OnOk result (IsStaleBelow version old.now (option_copied new.entry) → out.new.items ≡ out.old.items ++ listed_below old.now.depth n (content (option_copied new.entry)) old.now.entries (gone_below version path.now old.now)) }
+    ensures listed { OnOk result (IsStaleBelow version old.now (option_copied new.entry) → out.new.items ≡ out.old.items ++ listed_below old.now.depth n (content (option_copied new.entry)) old.now.entries (gone_node_below version path.now old.now)) }
 {
     match child_of(old, n) {
         None => Ok(()),
@@ -90,7 +90,7 @@ fn list_gone_from(
     requires own { IsOfVersion version (option_copied top) }
     requires landed { IsStaleUnder version (option_copied old) (option_copied top) }
     ensures front { take (length out.old.items) out.new.items ≡ out.old.items }
-    ensures listed { OnOk result (out.new.items ≡ out.old.items ++ with_root (content (option_copied top.entry)) (content (option_copied old.entry)) (gone_under version head (option_copied old.entry))) }
+    ensures listed { OnOk result (out.new.items ≡ out.old.items ++ with_root (content (option_copied top.entry)) (content (option_copied old.entry)) (gone_node_under version head (option_copied old.entry))) }
 {
     match old {
         None => {
@@ -118,7 +118,7 @@ fn list_gone_under(
     requires top { IsAtDepth 0 (option_copied top) }
     requires own { IsOfVersion version (option_copied top) }
     requires landed { IsStaleUnder version (option_copied old) (option_copied top) }
-    ensures listed { OnOk result (out.new.items ≡ out.old.items ++ with_root (content (option_copied top.entry)) (content (option_copied old.entry)) (gone_under version head (option_copied old.entry))) }
+    ensures listed { OnOk result (out.new.items ≡ out.old.items ++ with_root (content (option_copied top.entry)) (content (option_copied old.entry)) (gone_node_under version head (option_copied old.entry))) }
     ensures err { OnErr result (out.new.items ≡ out.old.items) }
 {
     let before = out.len();

@@ -92,7 +92,7 @@ pub(crate) fn written_wide<H: Threads + Sync, G: Gate>(
 ) -> Result<Written, Memory>
     requires old { IsAtDepth 0 (option_copied old) }
     requires top { IsAtDepth 0 (option_copied top) }
-    requires stale { IsStaleUnder version (option_copied old) (option_copied top) }
+    requires landed { IsStaleUnder version (option_copied old) (option_copied top) }
     requires old_sorted { T (is_sorted key_cmp (content (option_copied old))) }
     requires sorted { T (is_sorted key_cmp (content (option_copied top))) }
     ensures fresh { IfOk result (λ w. (es : Part) (before : Path → Option ℕ) → IsFreshUnder version es before (option_copied top.entry) → w.fresh ≡ with_root es (content (option_copied top.entry)) (fresh_under version (option_copied top.entry))) }

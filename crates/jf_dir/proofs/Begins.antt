@@ -26,7 +26,7 @@ use Rattle.jf_standing.proofs.LeafPaths.{leaf-plain, under-Contains}
 use Rattle.jf_standing.proofs.Lists.{All-each_element, map-which, none_in_nothing}
 use Rattle.jf_standing.proofs.Reordered.{moved-sound, map-moved, version-moved}
 use Rattle.jf_standing.proofs.SpelledRecords.{nodes-are_rising}
-use Rattle.jf_dir.specs.Directories.{begun_with}
+use Rattle.jf_dir.specs.Directories.{snapshot_standing}
 use Rattle.jf_dir.specs.Holding.{AreMarksOf, IsStandingHeld}
 use Rattle.jf_dir.proofs.MarkMoves.{mark-which}
 
@@ -49,28 +49,28 @@ module _ (base : ℕ) (earlier : List (List ℕ)) (x : SnapshotValue) (snap : Is
   moved : IsPermutation floor_made.nodes (nodes_by_name floor_made.nodes)
   moved = nodes-moved format.Two floor_made made-sound
 
-  pub begun-sound : IsSound format.Two (begun_with base earlier x)
+  pub begun-sound : IsSound format.Two (snapshot_standing base earlier x)
   begun-sound = moved-sound format.Two floor_made (nodes_by_name floor_made.nodes) made-sound moved
 
-  map_is : map_at x.version (begun_with base earlier x).nodes ≡ x.map
+  map_is : map_at x.version (snapshot_standing base earlier x).nodes ≡ x.map
   map_is = map-moved format.Two floor_made (nodes_by_name floor_made.nodes) made-sound moved x.version (omega arith) (omega arith) ∙ map-floor format.Two base x.version (root x.map ∷ reverse earlier) x.map (version_in x) snap.map low last
 
-  version_is : (p : Path) → is_node 0 p (entries x.map) ≡ true → version_at x.version (begun_with base earlier x).nodes p ≡ version_in x p
+  version_is : (p : Path) → is_node 0 p (entries x.map) ≡ true → version_at x.version (snapshot_standing base earlier x).nodes p ≡ version_in x p
   version_is p node = version-moved format.Two floor_made (nodes_by_name floor_made.nodes) made-sound moved x.version (omega arith) (omega arith) p ∙ version-floor format.Two base x.version (root x.map ∷ reverse earlier) x.map (version_in x) snap.map low last p node
 
-  came : (n : Named) → Contains (begun_with base earlier x).nodes n → Contains floor_made.nodes n
+  came : (n : Named) → Contains (snapshot_standing base earlier x).nodes n → Contains floor_made.nodes n
   came n has = Contains-permutation (nodes_by_name floor_made.nodes) floor_made.nodes n (IsPermutation-sym floor_made.nodes (nodes_by_name floor_made.nodes) moved) has
 
-  keys_are : AreEntries (leaf_entries (begun_with base earlier x).nodes)
-  keys_are = All-each_element _ (leaf_entries (begun_with base earlier x).nodes) (λ e has.
-      let n = leaf-which (begun_with base earlier x).nodes e has in
+  keys_are : AreEntries (leaf_entries (snapshot_standing base earlier x).nodes)
+  keys_are = All-each_element _ (leaf_entries (snapshot_standing base earlier x).nodes) (λ e has.
+      let n = leaf-which (snapshot_standing base earlier x).nodes e has in
       let y = map-which (node_of format.Two (version_in x)) (nodes x.map) n.0 (came n.0 n.1) in
       let is = (nodes-exact x.map y.0).0 y.1 in
       let leaf = ap (λ (z : Named). leaf_entry z.1) y.2 ∙ n.2 in
       let alone = leaf-plain true _ (length y.0.0) y.0.1 e leaf in
       All-of (λ f. IsKey f.0 × IsBytes f.1) (entries x.map) e snap.map (under-Contains 0 y.0.0 (entries x.map) e (subst (λ es. Contains es e) (sym alone ∙ is.1) (Contains-first e []))))
 
-  pub begun-read : IsReadStanding (begun_with base earlier x)
+  pub begun-read : IsReadStanding (snapshot_standing base earlier x)
   begun-read = record {
     base_low = omega (arith, numbered);
     floor_low = omega arith;
@@ -81,21 +81,21 @@ module _ (base : ℕ) (earlier : List (List ℕ)) (x : SnapshotValue) (snap : Is
     rises = nodes-are_rising floor_made.nodes;
   }
 
-  no_marks : AreMarksOf (begun_with base earlier x).nodes []
+  no_marks : AreMarksOf (snapshot_standing base earlier x).nodes []
   no_marks k = (
     λ has. absurd (none_in_nothing k has),
     λ has. absurd (
-        let n = mark-which (begun_with base earlier x).nodes k has in
+        let n = mark-which (snapshot_standing base earlier x).nodes k has in
         let y = map-which (node_of format.Two (version_in x)) (nodes x.map) n.0 (came n.0 n.1) in
         let since : not_stale ≡ n.0.2 = ap (λ (z : Named). z.2) y.2 in
         let high = n.2 in
         omega arith),
   )
 
-  pub nodes-begun : length (begun_with base earlier x).nodes ≡ length (nodes x.map)
+  pub nodes-begun : length (snapshot_standing base earlier x).nodes ≡ length (nodes x.map)
   nodes-begun = length_permutation floor_made.nodes (nodes_by_name floor_made.nodes) moved ∙ length-map (nodes x.map) (node_of format.Two (version_in x))
 
-  pub held-begun : (n : ℕ) → n ≡ length (nodes x.map) → IsStandingHeld (begun_with base earlier x) base (earlier ++ root x.map ∷ []) (x ∷ []) [] n
+  pub held-begun : (n : ℕ) → n ≡ length (nodes x.map) → IsStandingHeld (snapshot_standing base earlier x) base (earlier ++ root x.map ∷ []) (x ∷ []) [] n
   held-begun n is = record {
     read = begun-read;
     sound = begun-sound;

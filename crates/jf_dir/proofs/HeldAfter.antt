@@ -33,7 +33,7 @@ use Rattle.jf_standing.proofs.Contents.{version-placed}
 use Rattle.jf_standing.proofs.Lands.{map-lands}
 use Rattle.jf_standing.proofs.Leaves.{IsMap-map_at}
 use Rattle.jf_standing.proofs.Lists.{All-each_element}
-use Rattle.jf_dir.specs.Directories.{IsLandingUpdate, IsSnapshotAt, begun_with}
+use Rattle.jf_dir.specs.Directories.{IsLandingUpdate, IsSnapshotAt, snapshot_standing}
 use Rattle.jf_dir.specs.Holding.{standing_held, is_stale_node, landing_update, AreAdded, AreSomeAdded, AreRemoved, AreTakenUpto, IsStandingHeld}
 use Rattle.jf_dir.proofs.Begins.{held-begun}
 use Rattle.jf_dir.proofs.Held.{held-is}
@@ -148,13 +148,13 @@ prune-held s b rs xs xs' ms ms' n floor count dropped h low high rest at up up' 
 
 -- ---- one snapshot
 pub begun-held : (base : ℕ) (earlier : List (List ℕ)) (x : SnapshotValue) (r : List ℕ) (rs : List (List ℕ)) (none xs : List SnapshotValue) (ms : List Mark) (n : ℕ) → IsSnapshot x → AllByRecursion IsKey earlier → base + length earlier ≡ x.version → x.version < not_stale → len x.map ≤ 2 ^ 63
-    → r ≡ root x.map → rs ≡ earlier ++ r ∷ [] → none ≡ [] → xs ≡ none ++ x ∷ [] → ms ≡ [] → n ≡ length (nodes x.map) → IsStandingHeld (begun_with base earlier x) base rs xs ms n
+    → r ≡ root x.map → rs ≡ earlier ++ r ∷ [] → none ≡ [] → xs ≡ none ++ x ∷ [] → ms ≡ [] → n ≡ length (nodes x.map) → IsStandingHeld (snapshot_standing base earlier x) base rs xs ms n
 begun-held base earlier x r rs none xs ms n snap keys numbered last room root_is rooted empty one unmarked_ count =
     let hashes : AllByRecursion IsKey (root x.map ∷ reverse earlier) = (root-IsKey x.map, All-each_element IsKey (reverse earlier) (λ k has. All-of IsKey earlier k keys (Contains-permutation (reverse earlier) earlier k (IsPermutation-sym earlier (reverse earlier) (IsPermutation-reverse earlier)) has))) in
     let held = held-begun base earlier x snap hashes numbered last room n count in
-    subst (λ ts. IsStandingHeld (begun_with base earlier x) base ts xs ms n) (ap (λ k. earlier ++ k ∷ []) (sym root_is) ∙ sym rooted)
-    (subst (λ ys. IsStandingHeld (begun_with base earlier x) base (earlier ++ root x.map ∷ []) ys ms n) (ap (λ zs. zs ++ x ∷ []) (sym empty) ∙ sym one)
-    (subst (λ ks. IsStandingHeld (begun_with base earlier x) base (earlier ++ root x.map ∷ []) (x ∷ []) ks n) (sym unmarked_) held))
+    subst (λ ts. IsStandingHeld (snapshot_standing base earlier x) base ts xs ms n) (ap (λ k. earlier ++ k ∷ []) (sym root_is) ∙ sym rooted)
+    (subst (λ ys. IsStandingHeld (snapshot_standing base earlier x) base (earlier ++ root x.map ∷ []) ys ms n) (ap (λ zs. zs ++ x ∷ []) (sym empty) ∙ sym one)
+    (subst (λ ks. IsStandingHeld (snapshot_standing base earlier x) base (earlier ++ root x.map ∷ []) (x ∷ []) ks n) (sym unmarked_) held))
 
 -- ---- the empty map
 abbrev none_map : Map
@@ -171,5 +171,5 @@ begun-nodes : (v w : Path → ℕ) → v [] ≡ w [] → nodes_by_name (map (nod
 unfolding plain_node
 begun-nodes v w same = ap (λ (ps : List (Path × Part)). nodes_by_name (map (node_of format.Two v) ps)) nodes-empty ∙ one_node v w same ∙ ap (map (node_of format.Two w)) (sym nodes-empty)
 
-pub begun-new : begun_with 0 [] (snapshot_of 0 None) ≡ new_standing format.Two
+pub begun-new : snapshot_standing 0 [] (snapshot_of 0 None) ≡ new_standing format.Two
 begun-new = ap (λ (ns : List Named). record { base = 0; floor = 0; head = 0; roots = root fin.empty ∷ []; nodes = ns }) (begun-nodes (version_in (snapshot_of 0 None)) (λ path. 0) refl)

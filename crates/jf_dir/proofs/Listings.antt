@@ -25,7 +25,7 @@ use Rattle.jf_node.specs.Snapshots.{IsSnapshot, snapshot_version_at}
 use Rattle.jf_diff.specs.Gone.{IsLaterSnapshot, gone_node_in, gone_nodes}
 use Rattle.jf_diff.specs.Landings.{version_in, version_or}
 use Rattle.jf_standing.specs.Building.{apart, as_named, nodes_by_name}
-use Rattle.jf_standing.specs.Named.{Named, not_stale, is_alive, is_at, is_stale, alive_at, stale_at, map_at, version_at}
+use Rattle.jf_standing.specs.Named.{Named, not_stale, is_alive, is_at, is_stale, alive_nodes_at, stale_nodes_at, map_at, version_at}
 use Rattle.jf_standing.specs.Next.{IsReadStanding}
 use Rattle.jf_standing.specs.Order.{by_name}
 use Rattle.jf_standing.specs.Sound.{IsSound}
@@ -84,7 +84,7 @@ module _ (s : Standing) (sound : IsSound format.Two s) where
       let node' : is_node 0 p (entries (map_at w s.nodes)) ≡ true = subst (λ m. is_node 0 p (entries m) ≡ true) at.map node in
       let v : z.0.version ≡ version_in old p = sym (version-of w s.nodes p z (few-alive format.Two s sound w low high p) here there) ∙ sym (at.versions p node') in
       let plain : z.1 ≡ plain_node true (λ i. version_in old (p ++ i ∷ [])) (length p) (under 0 p (entries old.map)) =
-      All-of _ (alive_at w s.nodes) z (sound.versions w low high).nodes here
+      All-of _ (alive_nodes_at w s.nodes) z (sound.versions w low high).nodes here
       ∙ ap (λ q. plain_node true (λ i. version_at w s.nodes (q ++ i ∷ [])) (length q) (under 0 q (entries (map_at w s.nodes)))) there
       ∙ plain_node-same true (λ i. version_at w s.nodes (p ++ i ∷ [])) (λ i. version_in old (p ++ i ∷ [])) (length p) (under 0 p (entries (map_at w s.nodes))) (λ i some. sym (at.versions (p ++ i ∷ []) (child-node (entries (map_at w s.nodes)) p i node' some)))
       ∙ ap (λ m. plain_node true (λ i. version_in old (p ++ i ∷ [])) (length p) (under 0 p (entries m))) (sym at.map) in
@@ -101,10 +101,10 @@ module _ (s : Standing) (sound : IsSound format.Two s) where
         let p = x.0.0 in
         let listed = listed-fresh new.map old.map x.0 x.1 in
         let step = sound.steps (w + 1) (omega arith) (omega arith) in
-        let z = count-which (is_at p) (stale_at (w + 1) s.nodes) (omega (arith, step.stale p, one-true _ (stale_step p ∙ listed.0))) in
+        let z = count-which (is_at p) (stale_nodes_at (w + 1) s.nodes) (omega (arith, step.stale p, one-true _ (stale_step p ∙ listed.0))) in
         let stood = filter-Contains (is_stale (w + 1)) s.nodes z.0 z.1 in
         let since : z.0.2 ≡ w + 1 = number_tells z.0.2 (w + 1) (filter-passes (is_stale (w + 1)) s.nodes z.0 z.1) in
-        let alive : is_alive w z.0 ≡ true = subst (λ v. is_alive v z.0 ≡ true) (let e : w + 1 - 1 ≡ w = omega arith in e) (All-of _ (stale_at (w + 1) s.nodes) z.0 step.stood z.1) in
+        let alive : is_alive w z.0 ≡ true = subst (λ v. is_alive v z.0 ≡ true) (let e : w + 1 - 1 ≡ w = omega arith in e) (All-of _ (stale_nodes_at (w + 1) s.nodes) z.0 step.stood z.1) in
         let same = same_gone w old p z.0 low (omega arith) at stood alive (at-tells p z.0 z.2) (fresh-node (entries new.map) (entries old.map) p listed.0) in
         let is : z.0 ≡ n = same ∙ ap₂ (λ v part. gone_node_in old v (p, part)) since (sym listed.1) ∙ x.2 in
         subst (Contains s.nodes) is stood
@@ -114,8 +114,8 @@ module _ (s : Standing) (sound : IsSound format.Two s) where
         let p = n.0.path in
         let step = sound.steps (w + 1) (omega arith) (omega arith) in
         let went = Contains-filter (is_stale (w + 1)) s.nodes n has (same_number n.2 (w + 1) since) in
-        let is_stale_there = sym (stale_step p) ∙ test_so _ _ (step.stale p) (count-some (is_at p) (stale_at (w + 1) s.nodes) n went (at-so p n refl)) in
-        let alive : is_alive w n ≡ true = subst (λ v. is_alive v n ≡ true) (let e : w + 1 - 1 ≡ w = omega arith in e) (All-of _ (stale_at (w + 1) s.nodes) n step.stood went) in
+        let is_stale_there = sym (stale_step p) ∙ test_so _ _ (step.stale p) (count-some (is_at p) (stale_nodes_at (w + 1) s.nodes) n went (at-so p n refl)) in
+        let alive : is_alive w n ≡ true = subst (λ v. is_alive v n ≡ true) (let e : w + 1 - 1 ≡ w = omega arith in e) (All-of _ (stale_nodes_at (w + 1) s.nodes) n step.stood went) in
         let keys : IsMap old.map = subst IsMap (sym at.map) (IsMap-map_at w s.nodes read.keys) in
         let same = same_gone w old p n low (omega arith) at has alive refl (fresh-node (entries new.map) (entries old.map) p is_stale_there) in
         subst (Contains (gone_nodes old.map new.map old (w + 1))) (sym (same ∙ ap (λ v. gone_node_in old v (p, under 0 p (entries old.map))) since))
@@ -182,7 +182,7 @@ module _ (s : Standing) (sound : IsSound format.Two s) where
           | inl none ↦
               let p = n.0.path in
               let alive = alive-so s.head n (version-low format.Two s sound n has) (omega arith) in
-              let node' = test_so _ _ (stands format.Two s sound s.head low (omega arith) p) (count-some (is_at p) (alive_at s.head s.nodes) n (Contains-filter (is_alive s.head) s.nodes n has alive) (at-so p n refl)) in
+              let node' = test_so _ _ (stands format.Two s sound s.head low (omega arith) p) (count-some (is_at p) (alive_nodes_at s.head s.nodes) n (Contains-filter (is_alive s.head) s.nodes n has alive) (at-so p n refl)) in
               let node = subst (λ m. is_node 0 p (entries m) ≡ true) (sym at.map) node' in
               let keys : IsMap newest.map = subst IsMap (sym at.map) (IsMap-map_at s.head s.nodes read.keys) in
               let same = same_gone s.head newest p n low (omega arith) at has alive refl node in

@@ -40,5 +40,5 @@ abbrev pub standing_by_name : Standing → Standing
 standing_by_name s = with_nodes (nodes_by_name s.nodes) s
 
 -- the standing with the one version of a snapshot; the roots of the versions before it are `earlier`, the oldest first
-abbrev pub begun_with : ℕ → List (List ℕ) → SnapshotValue → Standing
-begun_with base earlier x = standing_by_name (floor_standing format.Two base x.version (root x.map ∷ reverse earlier) x.map (version_in x))
+abbrev pub snapshot_standing : ℕ → List (List ℕ) → SnapshotValue → Standing
+snapshot_standing base earlier x = standing_by_name (floor_standing format.Two base x.version (root x.map ∷ reverse earlier) x.map (version_in x))

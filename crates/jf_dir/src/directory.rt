@@ -17,7 +17,7 @@ ghost use Rattle.jf_standing.specs.Sound.{IsSound};
 ghost use Rattle.jf_standing.specs.Landing.{head_map, landing_of, version_after};
 ghost use Rattle.jf_standing.specs.Building.{landed_on, new_standing};
 ghost use Rattle.jf_standing.specs.Next.{IsReadStanding};
-ghost use Rattle.jf_dir.specs.Directories.{IsLandingUpdate, IsSnapshotAt, begun_with};
+ghost use Rattle.jf_dir.specs.Directories.{IsLandingUpdate, IsSnapshotAt, snapshot_standing};
 ghost use Rattle.jf_dir.specs.Holding.{landing_update};
 
 use crate::counting::{node_count, sum_within};
@@ -84,7 +84,7 @@ impl Directory {
         requires numbered { base + length earlier.now ≡ snapshot.version }
         requires bounded { snapshot.version < not_stale }
         requires room { len snapshot.map ≤ 2 ^ 63 }
-        ensures { IfOk result (λ d. d ≡ begun_with base earlier.now snapshot) }
+        ensures { IfOk result (λ d. d ≡ snapshot_standing base earlier.now snapshot) }
     {
         snapshot.know();
         know_hashes(earlier);

@@ -95,8 +95,8 @@ told_same g h o a b = let x : Some g ≡ Some h = sym a ∙ b in cc
 
 -- a history that is known after calls was known before them
 pub told_before : (o n : Option History) (g : History) → (o ≡ None → n ≡ None) → n ≡ Some g → (h : History) × (o ≡ Some h)
-told_before None n g untold told = absurd (let x : None ≡ Some g = sym (untold refl) ∙ told in cc)
-told_before (Some h) n g untold told = (h, refl)
+told_before None n g unknown told = absurd (let x : None ≡ Some g = sym (unknown refl) ∙ told in cc)
+told_before (Some h) n g unknown told = (h, refl)
 
 -- the history after a call that succeeds
 pub told_next : (f : DiskState → DiskState) (o n : Option History) (h : History) → o ≡ Some h → n ≡ option_map (next f) o → n ≡ Some (next f h)

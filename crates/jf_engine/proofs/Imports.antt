@@ -31,7 +31,7 @@ use Rattle.jf_standing.specs.Building.{node_of, floor_standing, imported_standin
 use Rattle.jf_standing.proofs.ByName.{nodes-moved}
 use Rattle.jf_standing.proofs.Floor.{floor-sound, map-floor}
 use Rattle.jf_standing.proofs.Reordered.{moved-versions}
-use Rattle.jf_dir.specs.Directories.{begun_with, standing_by_name}
+use Rattle.jf_dir.specs.Directories.{snapshot_standing, standing_by_name}
 use Rattle.jf_dir.proofs.Held.{nodes-alike}
 use Rattle.jf_engine.specs.Kept.{checkpoint_at_start}
 use Rattle.jf_engine.proofs.Records.{nodes-ordered}
@@ -55,7 +55,7 @@ module _ (x : SnapshotValue) (snap : IsSnapshot x) (last : x.version < not_stale
       (ap (λ n. map (λ w. map_at w made.nodes) (down_from x.version n)) (let e : x.version - x.version + 1 ≡ 1 = omega arith in e)
       ∙ ap (λ k. k ∷ []) (map-floor format.Two x.version x.version (root x.map ∷ []) x.map (version_in x) snap.map low last))
 
-  begun-imported : versions_of (begun_with x.version [] x) ≡ imported_versions x.version x.map
+  begun-imported : versions_of (snapshot_standing x.version [] x) ≡ imported_versions x.version x.map
   begun-imported = moved-versions format.Two made (nodes_by_name made.nodes) made-sound (nodes-moved format.Two made made-sound) ∙ made-versions
 
 -- ---- the versions of the nodes
@@ -76,7 +76,7 @@ restored-versions version n es x restored snap p node = elim (snapshot_version_a
 
 -- the directory of such a snapshot holds the standing that is imported
 pub restored-standing : (version n : ℕ) (es : List (List ℕ × List ℕ)) (x : SnapshotValue) (d : Standing) → IsRestored version es (replicate n version) x → IsSnapshot x → T (is_sorted key_cmp es)
-    → d ≡ begun_with version [] x → d ≡ standing_by_name (imported_standing format.Two version (map_of_entries es))
+    → d ≡ snapshot_standing version [] x → d ≡ standing_by_name (imported_standing format.Two version (map_of_entries es))
 restored-standing version n es x d restored snap sorted is =
     let same : x.map ≡ map_of_entries es = map-from_entries x.map (map_of_entries es) (restored.same ∙ sym (fin.entries-from_sorted key_cmp es sorted)) in
     is
@@ -97,9 +97,9 @@ restored-room version es written x restored few = omega (arith, few, fin.len-ent
 
 -- the directory of a restored snapshot
 pub restored-imported : (version : ℕ) (es : List (List ℕ × List ℕ)) (written : List ℕ) (x : SnapshotValue) (d : Standing) → IsRestored version es written x → IsSnapshot x → T (is_sorted key_cmp es) → version ≤ 2 ^ 64 - 2 → length es ≤ 2 ^ 62
-    → d ≡ begun_with version [] x → versions_of d ≡ imported_versions version (map_of_entries es)
+    → d ≡ snapshot_standing version [] x → versions_of d ≡ imported_versions version (map_of_entries es)
 restored-imported version es written x d restored snap sorted last few is =
     let same : x.map ≡ map_of_entries es = map-from_entries x.map (map_of_entries es) (restored.same ∙ sym (fin.entries-from_sorted key_cmp es sorted)) in
     let end : x.version < not_stale = omega (arith, last, restored.version) in
-    ap versions_of (is ∙ ap (λ v. begun_with v [] x) (sym restored.version)) ∙ begun-imported x snap end (restored-room version es written x restored few)
+    ap versions_of (is ∙ ap (λ v. snapshot_standing v [] x) (sym restored.version)) ∙ begun-imported x snap end (restored-room version es written x restored few)
     ∙ ap (λ v. imported_versions v x.map) restored.version ∙ ap (imported_versions version) same

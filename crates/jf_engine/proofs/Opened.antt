@@ -14,7 +14,7 @@ use Rattle.jf_frame.specs.Framing.{records, IsFrame}
 use Rattle.jf_frame.specs.Logs.{Log}
 use Rattle.jf_pair.specs.declared.fault.PairFault.{PairFault}
 use Rattle.jf_pair.specs.declared.fault.PairFault.TheVariants as pair_fault
-use Rattle.jf_pair.specs.Pairs.{Pair, IsInStep, StopsBetween, read_by}
+use Rattle.jf_pair.specs.Pairs.{Pair, IsInStep, StopsBetween, log_records}
 use Rattle.jf_pair.specs.Files.{HoldsLive}
 use Rattle.jf_pair.proofs.PairLaws.{in_step_holds, in_step_leaves, in_step_side}
 use Rattle.jf_pair.proofs.FileLaws.{holds_one}
@@ -96,13 +96,13 @@ generation-bounds spelling numbered (x ∷ xs) fmt s leads =
 
 -- ---- files with records
 module _ (formats : FormatsAreSound) (have : StandingsHaveVersions) (number : GenerationIsLive) (opens : OpensByRecords)
-    (o n : Option History) (m f m' f' : ℕ) (p : Pair) (fmt : Format) (s : Standing) (sound : IsSound format.Two s) (untold : o ≡ None → n ≡ None) where
+    (o n : Option History) (m f m' f' : ℕ) (p : Pair) (fmt : Format) (s : Standing) (sound : IsSound format.Two s) (unknown : o ≡ None → n ≡ None) where
   pub read_kept : (rs : List Framed) → LeadToStanding rs fmt (standing_in fmt s) → p.is_live ≡ true → p.failed ≡ false → ((h : History) → o ≡ Some h → (g : History) × (n ≡ Some g) × (LeavesFiles h g × IsInStep p rs g.now)) → KeepsStandingFiles n p fmt s (generation_in rs)
   read_kept rs leads live whole at = record {
     live = live;
     sound = whole;
     holds = λ g told'.
-        let b = told_before o n g untold told' in
+        let b = told_before o n g unknown told' in
         let a = at b.0 b.1 in
         let now : HoldsStandingOf p fmt s (generation_in rs) a.0.now = record { held = rs; in_step = a.2.1; leads = leads; numbered = refl } in
         subst (λ (h : History). HoldsStandingOf p fmt s (generation_in rs) h.now) (told_same a.0 g n a.1 told') now;
@@ -120,14 +120,14 @@ module _ (formats : FormatsAreSound) (have : StandingsHaveVersions) (number : Ge
         begun = λ h told. let a = at h told in (a.0, a.1, λ none. absurd (let e = holds_one (reads h) [] (x ∷ xs) none (held h told) in cc));
         live = λ h told. let a = at h told in (a.0, a.1, λ rs was. (x ∷ xs, in_step_holds p (x ∷ xs) a.0 a.2.1, subst (λ ys. LiveAfter Opens ys (x ∷ xs)) (holds_one (reads h) (x ∷ xs) rs (held h told) was) refl));
         succeeds = λ h told. let a = at h told in (a.0, a.1, λ leaves. opens h a.0 (versions_of s) p x xs to leaves a.2.0 a.2.1);
-        untold = untold;
+        unknown = unknown;
         moment = moment;
         faults = calm;
       }
 
 -- ---- files without a record
 module _ (one : FilesStandForOne) (number : GenerationIsLive) (begins : BeginsByRecords) (o t n : Option History) (m f m' f' : ℕ) (p : Pair) (x : Framed) (to : LeadTo (x ∷ []) new_store)
-    (untold : o ≡ None → n ≡ None) (moment : m ≤ m') (faults : f ≤ f')
+    (unknown : o ≡ None → n ≡ None) (moment : m ≤ m') (faults : f ≤ f')
     (left : (h : History) → o ≡ Some h → (k : History) × (t ≡ Some k) × (LeavesFiles h k × IsInStep p [] k.now))
     (stop : (k : History) → t ≡ Some k → (g : History) × (n ≡ Some g) × StopsBetween k g [] (x ∷ []))
     (readable : (g : History) → n ≡ Some g → IsImage g.now (reads g)) where
@@ -147,7 +147,7 @@ module _ (one : FilesStandForOne) (number : GenerationIsLive) (begins : BeginsBy
     damaged = λ h told where_ at e. absurd (cc);
     damaged_told = λ h told where_ at here. inr (inl refl);
     cause = λ e. cause;
-    untold = untold;
+    unknown = unknown;
     moment = moment;
     faults = faults;
   }
@@ -185,7 +185,7 @@ module _ (one : FilesStandForOne) (number : GenerationIsLive) (begins : BeginsBy
         begun = λ h told. let l = left h told in let b = bytes l.0 l.1 in (b.0, b.1, λ none. b.2 ∙ ap with_new_store l.2.0.same);
         live = λ h told. let a = at h told in (a.0, a.1, λ rs was. (x ∷ [], in_step_holds p' (x ∷ []) a.0 a.2.0, subst (λ ys. LiveAfter Opens ys (x ∷ [])) (holds_one (reads h) [] rs a.2.1.0 was) (x, refl, kind)));
         succeeds = λ h told. let a = at h told in (a.0, a.1, a.2.1.1);
-        untold = untold;
+        unknown = unknown;
         moment = moment;
         faults = calm;
       }
@@ -202,13 +202,13 @@ told_of_damage h open_fault.Memory where_ at one tells here = inr (inr refl)
 pub read_refused : DamageHasOnePlace → (o n : Option History) (m f m' f' : ℕ) (why : OpenFault) → (o ≡ None → n ≡ None) → m ≤ m' → f ≤ f' → (why ≡ open_fault.DiskFault → HasCause f f')
     → ((h : History) → o ≡ Some h → (g : History) × (n ≡ Some g) × LeavesFiles h g) → ((h : History) → o ≡ Some h → (w : Side) (at : ℕ) → why ≡ open_fault.Damaged w at → IsDamagedAt (reads h) w at)
     → HasRefused (disk_view o m f) (disk_view n m' f') why
-read_refused one o n m f m' f' why untold moment faults cause left damaged = record {
+read_refused one o n m f m' f' why unknown moment faults cause left damaged = record {
   disk = λ h told. let a = left h told in (a.0, a.1, reads_keep h a.0 a.2);
   left = λ h told. let a = left h told in (a.0, a.1, inl a.2);
   damaged = damaged;
   damaged_told = λ h told where_ at here. told_of_damage h why where_ at one (damaged h told) here;
   cause = cause;
-  untold = untold;
+  unknown = unknown;
   moment = moment;
   faults = faults;
 }
@@ -216,18 +216,18 @@ read_refused one o n m f m' f' why untold moment faults cause left damaged = rec
 -- ---- the results of an opening
 -- what is found if the records of a log are replayed
 module _ (formats : FormatsAreSound) (have : StandingsHaveVersions) (number : GenerationIsLive) (opens : OpensByRecords)
-    (o n : Option History) (m f m' f' : ℕ) (p : Pair) (rs : List Framed) (untold : o ≡ None → n ≡ None) (moment : m ≤ m') (faults : f ≤ f')
+    (o n : Option History) (m f m' f' : ℕ) (p : Pair) (rs : List Framed) (unknown : o ≡ None → n ≡ None) (moment : m ≤ m') (faults : f ≤ f')
     (at : (h : History) → o ≡ Some h → (g : History) × (n ≡ Some g) × (LeavesFiles h g × IsInStep p rs g.now)) (held : (h : History) → o ≡ Some h → HoldsLive (reads h) rs) where
   pub replayed_opened : f' ≡ f → (r : Result Found OpenFault) → IfOk r (λ x. LeadToStanding rs x.format (standing_in x.format x.directory)) → IfOk r (λ x. IsSound format.Two x.directory) → IfOk r (λ x. x.generation ≡ generation_in rs)
       → IfOk r (λ x. HasOpened (disk_view o m f) (disk_view n m' f') (versions_of x.directory) x.generation)
   replayed_opened calm (Ok x) led sound is =
-      subst (λ k. HasOpened (disk_view o m f) (disk_view n m' f') (versions_of x.directory) k) (sym is) (read_opened formats have number opens o n m f m' f' p x.format x.directory sound untold rs led at held moment calm)
+      subst (λ k. HasOpened (disk_view o m f) (disk_view n m' f') (versions_of x.directory) k) (sym is) (read_opened formats have number opens o n m f m' f' p x.format x.directory sound unknown rs led at held moment calm)
   replayed_opened calm (Err e) led sound is = tt
 
   pub replayed_kept : p.is_live ≡ true → p.failed ≡ false → (r : Result Found OpenFault) → IfOk r (λ x. x.pair ≡ p) → IfOk r (λ x. LeadToStanding rs x.format (standing_in x.format x.directory)) → IfOk r (λ x. IsSound format.Two x.directory) → IfOk r (λ x. x.generation ≡ generation_in rs)
       → IfOk r (λ x. KeepsStandingFiles n x.pair x.format x.directory x.generation)
   replayed_kept live whole (Ok x) same led sound is =
-      subst (λ k. KeepsStandingFiles n x.pair x.format x.directory k) (sym is) (subst (λ (q : Pair). KeepsStandingFiles n q x.format x.directory (generation_in rs)) (sym same) (read_kept formats have number opens o n m f m' f' p x.format x.directory sound untold rs led live whole at))
+      subst (λ k. KeepsStandingFiles n x.pair x.format x.directory k) (sym is) (subst (λ (q : Pair). KeepsStandingFiles n q x.format x.directory (generation_in rs)) (sym same) (read_kept formats have number opens o n m f m' f' p x.format x.directory sound unknown rs led live whole at))
   replayed_kept live whole (Err e) same led sound is = tt
 
   pub replayed_damage : DamageIsNoVersions → (r : Result Found OpenFault) → IfOk r (λ x. LeadToStanding rs x.format (standing_in x.format x.directory)) → IfOk r (λ x. IsSound format.Two x.directory)
@@ -240,7 +240,7 @@ module _ (formats : FormatsAreSound) (have : StandingsHaveVersions) (number : Ge
       → (r ≡ Err open_fault.DiskFault → ⊥) → IfErr r (HasRefused (disk_view o m f) (disk_view n m' f'))
   replayed_refused one live (Ok x) damaged never = tt
   replayed_refused one live (Err e) damaged never =
-      read_refused one o n m f m' f' e untold moment faults (λ is. absurd (never (ap (λ w. Err w) is))) (λ h told. let a = at h told in (a.0, a.1, a.2.0)) (λ h told where_ place is.
+      read_refused one o n m f m' f' e unknown moment faults (λ is. absurd (never (ap (λ w. Err w) is))) (λ h told. let a = at h told in (a.0, a.1, a.2.0)) (λ h told where_ place is.
       let a = at h told in
       let found = damaged where_ place (ap (λ w. Err w) is) in
       let k = held h told in
@@ -263,7 +263,7 @@ first_written r (inl e) never = absurd (never e)
 first_written r (inr p) never = p
 
 module _ (one : FilesStandForOne) (place : DamageHasOnePlace) (number : GenerationIsLive) (begins : BeginsByRecords) (succeeds : SucceedsByRecords) (reading : SucceedsAfterReading) (first : FirstFollows) (follow : CheckpointsFollow) (numbered : CheckpointsAreNumbered) (new : NewIsSound)
-    (o t n : Option History) (m m1 m' f f1 f' : ℕ) (p : Pair) (untold : o ≡ None → t ≡ None) (later : m ≤ m1) (counted : f ≤ f1)
+    (o t n : Option History) (m m1 m' f f1 f' : ℕ) (p : Pair) (unknown : o ≡ None → t ≡ None) (later : m ≤ m1) (counted : f ≤ f1)
     (left : (h : History) → o ≡ Some h → (k : History) × (t ≡ Some k) × (LeavesFiles h k × IsInStep p [] k.now))
     (stop : (k : History) → t ≡ Some k → (g : History) × (n ≡ Some g) × StopsBetween k g [] (checkpoint_at_start 1 (new_standing format.Two) ∷ []))
     (readable : (g : History) → n ≡ Some g → IsImage g.now (reads g)) where
@@ -280,7 +280,7 @@ module _ (one : FilesStandForOne) (place : DamageHasOnePlace) (number : Generati
 
   module _ (r : Result Found OpenFault) (calls : CallsOn t m1 f1 n m' f' (r ≡ Err open_fault.DiskFault)) where
     all_untold : o ≡ None → n ≡ None
-    all_untold none = calls.untold (untold none)
+    all_untold none = calls.unknown (unknown none)
 
     all_later : m ≤ m'
     all_later = let b = calls.later in omega (arith, later, b)
@@ -320,7 +320,7 @@ module _ (one : FilesStandForOne) (place : DamageHasOnePlace) (number : Generati
   first_kept (Ok x) calls spelled found known in_step =
       let written = first_written {P = IsRecord format.Two (checkpoint_of 1 (new_standing format.Two))} (Ok x) spelled (λ e. absurd (cc)) in
       let leads = checkpoint_leads follow numbered (new_standing format.Two) 1 (subst IsReadStanding found.0 known.0) (subst (IsSound format.Two) found.0 known.1) written in
-      let kept = switched_keeps t n x.pair format.Two (new_standing format.Two) 1 y calls.untold found.3 found.4 leads.0 leads.1 in_step in
+      let kept = switched_keeps t n x.pair format.Two (new_standing format.Two) 1 y calls.unknown found.3 found.4 leads.0 leads.1 in_step in
       subst (λ (q : Format). KeepsStandingFiles n x.pair q x.directory x.generation) (sym found.1) (subst (λ (s : Standing). KeepsStandingFiles n x.pair format.Two s x.generation) (sym found.0) (subst (λ k. KeepsStandingFiles n x.pair format.Two (new_standing format.Two) k) (sym found.2) kept))
   first_kept (Err e) calls spelled found known in_step = tt
 
@@ -349,5 +349,5 @@ of_pair_damage (pair_fault.Damaged w n) where_ at e = cc
 of_pair_damage pair_fault.Memory where_ at e = absurd (cc)
 
 -- the records of the live log are those that a disk is in step with
-pub live_in_step : (n : Option History) (p : Pair) (l : Option Log) (rs : List Framed) → read_by l ≡ rs → ((g : History) × (n ≡ Some g) × IsInStep p (read_by l) g.now) → (g : History) × (n ≡ Some g) × IsInStep p rs g.now
+pub live_in_step : (n : Option History) (p : Pair) (l : Option Log) (rs : List Framed) → log_records l ≡ rs → ((g : History) × (n ≡ Some g) × IsInStep p (log_records l) g.now) → (g : History) × (n ≡ Some g) × IsInStep p rs g.now
 live_in_step n p l rs is a = (a.0, a.1, subst (λ (xs : List Framed). IsInStep p xs a.0.now) is a.2)

@@ -32,27 +32,27 @@ leads_by_a_record (x ∷ xs) fmt s leads e = absurd (cc)
 
 -- what is found if the records of a log are replayed
 module _ (formats : FormatsAreSound) (have : StandingsHaveVersions) (number : GenerationIsLive) (opens : OpensByRecords) (spelling : SpelledIsSpelling) (numbered : CheckpointsAreNumbered)
-    (o n : Option History) (m f m' f' : ℕ) (p : Pair) (rs : List Framed) (untold : o ≡ None → n ≡ None) (moment : m ≤ m') (faults : f ≤ f')
+    (o n : Option History) (m f m' f' : ℕ) (p : Pair) (rs : List Framed) (unknown : o ≡ None → n ≡ None) (moment : m ≤ m') (faults : f ≤ f')
     (at : (h : History) → o ≡ Some h → (g : History) × (n ≡ Some g) × (LeavesFiles h g × IsInStep p rs g.now)) (held : (h : History) → o ≡ Some h → HoldsLive (reads h) rs) where
   pub sought_store : f' ≡ f → p.is_live ≡ true → p.failed ≡ false → (x : Found) → x.pair ≡ p → LeadToStanding rs x.format (standing_in x.format x.directory) → IsSound format.Two x.directory → x.generation ≡ generation_in rs
       → HasSoughtStore (disk_view o m f) (disk_view n m' f') x
   sought_store calm live whole x same led sound is = record {
     reopened = record {
-      opened = replayed_opened formats have number opens o n m f m' f' p rs untold moment faults at held calm (Ok x) led sound is;
+      opened = replayed_opened formats have number opens o n m f m' f' p rs unknown moment faults at held calm (Ok x) led sound is;
       recorded = λ h told none. leads_by_a_record rs x.format (standing_in x.format x.directory) led (holds_one (reads h) rs [] (held h told) none);
       left = λ h told. let a = at h told in (a.0, a.1, a.2.0);
     };
-    kept = replayed_kept formats have number opens o n m f m' f' p rs untold moment faults at held live whole (Ok x) same led sound is;
+    kept = replayed_kept formats have number opens o n m f m' f' p rs unknown moment faults at held live whole (Ok x) same led sound is;
     numbered = replayed_numbered spelling numbered rs (Ok x) led is;
   }
 
 -- files without a record
-module _ (o n : Option History) (p : Pair) (untold : o ≡ None → n ≡ None) (left : (h : History) → o ≡ Some h → (g : History) × (n ≡ Some g) × (LeavesFiles h g × IsInStep p [] g.now)) where
+module _ (o n : Option History) (p : Pair) (unknown : o ≡ None → n ≡ None) (left : (h : History) → o ≡ Some h → (g : History) × (n ≡ Some g) × (LeavesFiles h g × IsInStep p [] g.now)) where
   pub sought_pair : (m f m' f' : ℕ) → m ≤ m' → f' ≡ f → p.failed ≡ false → p.is_live ≡ false → p.side ≡ side.B → HasSoughtPair (disk_view o m f) (disk_view n m' f') p
   sought_pair m f m' f' moment calm sound none first = record {
     none = record {
       disk = λ h told. let l = left h told in (l.0, l.1, (subst (λ (fs : Files). HoldsLive fs []) l.2.0.same (in_step_holds p [] l.0 l.2.1), l.2.0));
-      untold = untold;
+      unknown = unknown;
       moment = moment;
       faults = calm;
     };

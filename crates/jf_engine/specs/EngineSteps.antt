@@ -85,7 +85,7 @@ pub record HasStepped (step : StoreStep) (old new : Engine) : Type 0 where
   pub least : old.moment + 4 ≤ new.moment
   pub most : new.moment ≤ old.moment + call_limit step
   pub faults : new.faults ≡ old.faults
-  pub untold : old.history ≡ None → new.history ≡ None
+  pub unknown : old.history ≡ None → new.history ≡ None
   pub began : IsDatedEngine old
   pub dated : IsDatedEngine new
   pub disk : OnHistories old.history new.history (λ h g. Succeeds step h g old.versions)
@@ -100,7 +100,7 @@ pub record HasStopped (step : StoreStep) (old new : Engine) : Type 0 where
   pub most : new.moment ≤ old.moment + call_limit step
   pub faults : old.faults ≤ new.faults
   pub cause : HasCause old.faults new.faults
-  pub untold : old.history ≡ None → new.history ≡ None
+  pub unknown : old.history ≡ None → new.history ≡ None
   pub began : IsDatedEngine old
   pub disk : OnHistories old.history new.history (λ h g. StopsWell step h g old.versions)
 

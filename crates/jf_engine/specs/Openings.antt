@@ -57,7 +57,7 @@ pub record HasOpened (old new : DiskView) (v : Versions) (n : ℕ) : Type 0 wher
   pub live : OnHistories old.history new.history (λ h g. (rs : List Framed) → HoldsLive (reads h) rs → (rs' : List Framed) × HoldsLive (reads g) rs' × LiveAfter Opens rs rs')
   pub begun : OnHistories old.history new.history (λ h g. HoldsLive (reads h) [] → reads g ≡ with_new_store (reads h))
   pub succeeds : OnHistories old.history new.history (λ h g. LeavesNow h (λ f. StandsFor f v) → Succeeds Opens h g v)
-  pub untold : old.history ≡ None → new.history ≡ None
+  pub unknown : old.history ≡ None → new.history ≡ None
   pub moment : old.moment ≤ new.moment
   pub faults : new.faults ≡ old.faults
 
@@ -69,7 +69,7 @@ pub record HasRefused (old new : DiskView) (why : OpenFault) : Type 0 where
   pub damaged : ForSome old.history (λ h. (where_ : Side) (at : ℕ) → why ≡ open_fault.Damaged where_ at → IsDamagedAt (reads h) where_ at)
   pub damaged_told : ForSome old.history (λ h. (where_ : Side) (at : ℕ) → IsDamagedAt (reads h) where_ at → (why ≡ open_fault.Damaged where_ at) ⊎ ((why ≡ open_fault.DiskFault) ⊎ (why ≡ open_fault.Memory)))
   pub cause : why ≡ open_fault.DiskFault → HasCause old.faults new.faults
-  pub untold : old.history ≡ None → new.history ≡ None
+  pub unknown : old.history ≡ None → new.history ≡ None
   pub moment : old.moment ≤ new.moment
   pub faults : old.faults ≤ new.faults
 
@@ -83,7 +83,7 @@ pub record HasReopened (old new : DiskView) (v : Versions) (n : ℕ) : Type 0 wh
 -- neither side of the files holds a record, and the files are unchanged
 pub record HasFoundNoStore (old new : DiskView) : Type 0 where
   pub disk : OnHistories old.history new.history (λ h g. HoldsLive (reads h) [] × LeavesFiles h g)
-  pub untold : old.history ≡ None → new.history ≡ None
+  pub unknown : old.history ≡ None → new.history ≡ None
   pub moment : old.moment ≤ new.moment
   pub faults : new.faults ≡ old.faults
 

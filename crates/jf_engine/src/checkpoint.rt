@@ -19,7 +19,7 @@ pub(crate) fn checkpoint_frame(
     directory: &Directory,
     generation: u64,
 ) -> Result<Bytes, Memory>
-    requires first { 1 ≤ generation }
+    requires positive { 1 ≤ generation }
     requires bounded { generation ≤ 2 ^ 64 - 2 }
     ensures spelled { OnOk result (IsRecord format.Two (checkpoint_of generation directory.now)) }
     ensures frame { IfOk result (λ bytes. IsFrame bytes (checkpoint_kind format.Two) (record_bytes format.Two (checkpoint_of generation directory.now))) }

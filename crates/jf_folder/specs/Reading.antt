@@ -5,9 +5,9 @@ use Rattle.jf_folder.specs.declared.seen.Seen.{Seen}
 use Rattle.jf_folder.specs.declared.seen.Seen.TheVariants as seen
 
 -- what is seen of a file of these bytes, or of none
-abbrev pub seen_of : Option (List ℕ) → Seen
-seen_of None = seen.Missing
-seen_of (Some bytes) = seen.There (length bytes) (slice_index bytes 0)
+abbrev pub seen_file : Option (List ℕ) → Seen
+seen_file None = seen.Missing
+seen_file (Some bytes) = seen.There (length bytes) (slice_index bytes 0)
 
 -- the calls on a file, if there is one: it was read, and nothing else
 abbrev pub IsReadAlone : Option FileCalls → Option FileCalls → Type 0

@@ -52,7 +52,7 @@ impl Folder {
 
     // Counts a sync that failed.
     fn count_failed_sync(&mut self, outcome: io::Result<()>) -> io::Result<()>
-        ensures outcome { result ≡ outcome }
+        ensures value { result ≡ outcome }
         ensures ok { OnOk result (self.new ≡ self.old) }
         ensures failed { OnErr result (self.new ≡ record self.old { failed = count_after_call self.old.failed }) }
     {

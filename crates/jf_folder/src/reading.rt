@@ -2,7 +2,7 @@
 ghost use Rattle.std.specs.Prelude.{◌≡◌, [], length, Err, IfOk, option_map};
 ghost use Rattle.jf_folder.specs.Calls.{ReadsAlone};
 ghost use Rattle.jf_folder.specs.Begun.{store_refusal};
-ghost use Rattle.jf_folder.specs.Reading.{IsReadAlone, seen_of};
+ghost use Rattle.jf_folder.specs.Reading.{IsReadAlone, seen_file};
 
 use crate::cause::FaultCause;
 use crate::counted::CountedFile;
@@ -62,15 +62,15 @@ impl FolderBytes {
     /// Why no store would be opened over these files, if none would (docs/FORMATS.md, "The files of a folder").
     pub fn refusal(&self) -> Option<FaultCause>
         // The result is that for what is seen of each file: whether it is there, its length and its first byte.
-        ensures { result ≡ store_refusal (seen_of (option_map (λ v. v.items) self.now.a)) (seen_of (option_map (λ v. v.items) self.now.b)) }
+        ensures { result ≡ store_refusal (seen_file (option_map (λ v. v.items) self.now.a)) (seen_file (option_map (λ v. v.items) self.now.b)) }
     {
-        store_refusal(seen_of(&self.a), seen_of(&self.b))
+        store_refusal(seen_file(&self.a), seen_file(&self.b))
     }
 }
 
 // What is seen of a file of these bytes.
-fn seen_of(file: &Option<Vec<u8>>) -> Seen
-    ensures { result ≡ seen_of (option_map (λ v. v.items) file.now) }
+fn seen_file(file: &Option<Vec<u8>>) -> Seen
+    ensures { result ≡ seen_file (option_map (λ v. v.items) file.now) }
 {
     match file {
         None => Seen::Missing,

@@ -2,7 +2,7 @@
 use Rattle.std.proofs.Common.{◌≡◌, ◌∙◌, ◌⊎◌, inl, inr, ℕ, List, [], ◌++◌, append-nil, Some, None, Result, Ok, Err, false, refl, ap, sym, subst}
 use Rattle.std.specs.Prelude.{OnOk, IfErr}
 use denote.Ref.{Bor, MutBor}
-use Rattle.jf_input.specs.Feeds.{given_of}
+use Rattle.jf_input.specs.Feeds.{front_of_line}
 use Rattle.jf_input.proofs.Given.{given_alike}
 use Rattle.jf_model.specs.declared.entries.Entry.{Entry}
 use Rattle.jf_engine.specs.Engines.{Engine}
@@ -15,7 +15,7 @@ use Rattle.jf_follow.specs.declared.following.FollowStop.{FollowStop}
 use Rattle.jf_follow.specs.declared.following.FollowStop.TheVariants as stop
 use Rattle.jf_follow.specs.Lines.{FollowState, follow_state, KeepsBlock, DoesBlock, KeepsEndedBlock, TakesLandingLine, DoesLandingLine, MayFollow}
 
-module _ (r : LandingReading) (line whole : List ℕ) (given : line ≡ given_of whole) where
+module _ (r : LandingReading) (line whole : List ℕ) (given : line ≡ front_of_line whole) where
   same_reading : reading_after r line ≡ reading_after r whole
   same_reading = ap (reading_after r) given ∙ given_alike (reading_after r) (λ l o h k. (after-long r l o h k).0) whole
 
@@ -23,7 +23,7 @@ module _ (r : LandingReading) (line whole : List ℕ) (given : line ≡ given_of
   same_block = ap (ended_block r) given ∙ given_alike (ended_block r) (λ l o h k. (after-long r l o h k).1) whole
 
 -- the result for what is given of a line is the result for the line
-pub takes_whole : (s next : FollowState) (line whole : List ℕ) (r : Result (List ℕ) FollowStop) → line ≡ given_of whole → TakesLandingLine s line next r → TakesLandingLine s whole next r
+pub takes_whole : (s next : FollowState) (line whole : List ℕ) (r : Result (List ℕ) FollowStop) → line ≡ front_of_line whole → TakesLandingLine s line next r → TakesLandingLine s whole next r
 takes_whole s next line whole (Ok text) given t =
     (t.0, (t.1.0 ∙ same_reading s.reading line whole given, t.1.1), subst (λ o. KeepsEndedBlock o s next) (same_block s.reading line whole given) t.2)
 takes_whole s next line whole (Err (stop.Refused (refused.Line at))) given t = (t.0 ∙ same_reading s.reading line whole given, t.1, t.2)
@@ -34,11 +34,11 @@ takes_whole s next line whole (Err stop.DiskFault) given t =
 takes_whole s next line whole (Err stop.Memory) given t = t
 
 pub took_ok : (s next : FollowState) (line out : List ℕ) (r : Result (Unit {0}) FollowStop) → DoesLandingLine s line r next
-    → OnOk r ((t : List ℕ) × (out ≡ out ++ t) × ((whole : List ℕ) → line ≡ given_of whole → TakesLandingLine s whole next (Ok t)))
+    → OnOk r ((t : List ℕ) × (out ≡ out ++ t) × ((whole : List ℕ) → line ≡ front_of_line whole → TakesLandingLine s whole next (Ok t)))
 took_ok s next line out (Ok u) did = ([], sym (append-nil out), λ whole given. takes_whole s next line whole (Ok []) given did.0)
 took_ok s next line out (Err why) did = tt
 
-pub took_err : (s next : FollowState) (line whole : List ℕ) (r : Result (Unit {0}) FollowStop) → line ≡ given_of whole → DoesLandingLine s line r next → IfErr r (λ why. TakesLandingLine s whole next (Err why))
+pub took_err : (s next : FollowState) (line whole : List ℕ) (r : Result (Unit {0}) FollowStop) → line ≡ front_of_line whole → DoesLandingLine s line r next → IfErr r (λ why. TakesLandingLine s whole next (Err why))
 took_err s next line whole (Ok u) given did = tt
 took_err s next line whole (Err why) given did = takes_whole s next line whole (Err why) given did.0
 

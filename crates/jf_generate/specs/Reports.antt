@@ -40,9 +40,9 @@ abbrev pub tally_more : Tallied → List ℕ → Tallied
 tally_more t text = record { refused = if is_refused text then t.refused + 1 else t.refused; before = t.last; last = text }
 
 -- the line `refused C`, with its line feed, and the last two replies
-abbrev pub written_of : Tallied → List ℕ
-written_of t = codes "refused " ++ (decimal t.refused ++ 10 ∷ (t.before ++ t.last))
+abbrev pub tally_text : Tallied → List ℕ
+tally_text t = codes "refused " ++ (decimal t.refused ++ 10 ∷ (t.before ++ t.last))
 
 -- what the mode writes of these replies, which are texts that end in 0A
 abbrev pub generate_output : List (List ℕ) → List ℕ
-generate_output replies = written_of (tally_of replies)
+generate_output replies = tally_text (tally_of replies)

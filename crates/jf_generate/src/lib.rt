@@ -10,6 +10,6 @@ mod place;
 mod reply_tally;
 
 pub use generator::Generator;
-pub use laws::refusals_are_told;
+pub use laws::refusals_are_reported;
 pub use limits::{MAX_BATCHES, MAX_SIZE};
 pub use reply_tally::ReplyTally;

@@ -1,7 +1,7 @@
 // The replies to a generated script are counted one by one, and the last two are kept.
 ghost use Rattle.std.specs.Prelude.{◌≡◌, ◌+◌, ◌++◌, ◌<◌, ◌^◌, [], ◌∷◌, List, ℕ, OnOk, OnErr};
 ghost use Rattle.jf_text.specs.Words.{Extends};
-ghost use Rattle.jf_generate.specs.Reports.{is_refused, tally_of, tally_more, written_of};
+ghost use Rattle.jf_generate.specs.Reports.{is_refused, tally_of, tally_more, tally_text};
 
 use jf_path::{Bytes, Memory};
 use jf_text::{is_word, split_word, write_number};
@@ -65,7 +65,7 @@ impl ReplyTally {
     /// Appends the line `refused C` and the last two replies. If memory runs out, the text is unchanged.
     pub fn write(&self, out: &mut Bytes) -> Result<(), Memory>
         // After `Ok` the line `refused C` and the texts of the last two replies were appended.
-        ensures ok { OnOk result (out.new ≡ out.old ++ written_of self.now) }
+        ensures ok { OnOk result (out.new ≡ out.old ++ tally_text self.now) }
         // If memory runs out, the text is unchanged.
         ensures err { OnErr result (out.new ≡ out.old) }
     {
@@ -80,7 +80,7 @@ impl ReplyTally {
     }
 
     fn write_parts(&self, out: &mut Bytes) -> Result<(), Memory>
-        ensures ok { OnOk result (out.new ≡ out.old ++ written_of self.now) }
+        ensures ok { OnOk result (out.new ≡ out.old ++ tally_text self.now) }
         ensures err { OnErr result (Extends out.old out.new) }
     {
         write_number(b"refused ", self.refused, out)?;

@@ -13,7 +13,7 @@ use Rattle.jf_io.proofs.Plain.{held_plain, front_split, front_plain, front_whole
 use Rattle.jf_io.proofs.EndedLines.{lines-none, plain_more}
 use Rattle.jf_io.proofs.AfterLines.{bytes_after-next}
 use Rattle.jf_io.proofs.Found.{where_of, found_whole, lines_found, cut_of, last_of}
-use Rattle.jf_input.specs.Feeds.{Appends, HandsOn, Gathers, IsGathered, StopsGathering, ReadsAll, HasRead, Fed, ReadsLinesOf, ReadsFew, given_of, EndsAfter}
+use Rattle.jf_input.specs.Feeds.{Appends, HandsOn, Gathers, IsGathered, StopsGathering, ReadsAll, HasRead, Fed, ReadsLinesOf, ReadsFew, front_of_line, EndsAfter}
 use Rattle.jf_input.specs.declared.feeding.Feeding.{Feeding}
 use Rattle.jf_input.specs.declared.feeding.Feeding.TheVariants as feeding
 use Rattle.jf_input.proofs.Gathering.{Keeps, Written, KeptCut, keeps_none, keeps_handed, keeps_line, keeps_cut, is_gathered_line, written_none, written_all}
@@ -123,7 +123,7 @@ module _ {source source' : Option (List ℕ)} {held : Held} {ls : List (List ℕ
       let after : bytes_after (length more) (text_of_lines ls ++ f.whole) ≡ after_first is_line_feed held.bytes = bytes_after-next ls real f.whole f.plain ∙ after_first-text 8500 f.whole held.bytes f.shortened in
       (i.0, i.1, record { read = read_to_line found input i.0 i.1 i.2; few = subst (λ (t : List ℕ). length t < piece) (sym after) few })
 
-  given : (line : List ℕ) → line ≡ take (held.limit + 1) (before_first is_line_feed held.bytes) → line ≡ given_of real
+  given : (line : List ℕ) → line ≡ take (held.limit + 1) (before_first is_line_feed held.bytes) → line ≡ front_of_line real
   given line front = front ∙ ap (λ n. take (n + 1) (before_first is_line_feed held.bytes)) f.limit ∙ line_front-text 8500 f.whole held.bytes f.shortened
 
   -- it was taken with its line feed, and more may follow
@@ -188,7 +188,7 @@ fed_cut_in {source = source} {source' = source'} c reads = record {
 
 -- the effect of a line on the machine, with what it adds gathered, for whatever line of which this is given
 abbrev pub Step : {M F : Type 0} → (M → List ℕ → M → Result (List ℕ) F → Type 0) → (M → M → Type 0) → M → List ℕ → M → Option (List ℕ) → Option (List ℕ) → List ℕ → List ℕ → Type 0
-Step takes quiet now line next text text' out out' = (whole : List ℕ) → line ≡ given_of whole → (t : List ℕ) × takes now whole next (Ok t) × Gathers quiet now next text text' out out' t
+Step takes quiet now line next text text' out out' = (whole : List ℕ) → line ≡ front_of_line whole → (t : List ℕ) × takes now whole next (Ok t) × Gathers quiet now next text text' out out' t
 
 module _ {M F : Type 0} {takes : M → List ℕ → M → Result (List ℕ) F → Type 0} {quiet : M → M → Type 0} {old now : M} {source source' text text' : Option (List ℕ)} {held : Held} {out : List ℕ} (f : SoFar takes quiet old now source source' text text' held out) where
   -- ---- between two lines
@@ -285,7 +285,7 @@ module _ {M F : Type 0} {takes : M → List ℕ → M → Result (List ℕ) F �
     fed_cut_last found step c = fed_cut_in (keeps_cut [] (keeps_next step) c refl) (subst (λ (x : List (List ℕ)). ReadsLinesOf source source' x) (sym (append-nil (more f.reads))) (read_line f.reads found))
 
     -- it ends there
-    pub fed_at_line : {ends : M → M → Result (List ℕ) F → Type 0} {piece : ℕ} (how : Feeding F) → IsLineFound held.bytes source' → length (after_first is_line_feed held.bytes) < piece → ((whole : List ℕ) → line ≡ given_of whole → StopsGathering takes quiet how now whole next text' text'' out)
+    pub fed_at_line : {ends : M → M → Result (List ℕ) F → Type 0} {piece : ℕ} (how : Feeding F) → IsLineFound held.bytes source' → length (after_first is_line_feed held.bytes) < piece → ((whole : List ℕ) → line ≡ front_of_line whole → StopsGathering takes quiet how now whole next text' text'' out)
         → Fed takes ends quiet piece how old next source source' text text''
     fed_at_line {ends = ends} {piece = piece} feeding.WriteFault found few e =
         let s = e (real f.reads) (given f.reads line front) in

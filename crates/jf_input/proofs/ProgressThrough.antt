@@ -6,7 +6,7 @@ use Rattle.std.specs.List.{position_or_len, before_first, after_first}
 use Rattle.jf_io.specs.LineReader.{Held, IsShortened, IsFetched, is_line_feed}
 use Rattle.jf_io.specs.Inputs.{IsLineFound}
 use Rattle.jf_io.proofs.Written.{nothing_written}
-use Rattle.jf_input.specs.Feeds.{HandsOn, IsGathered, Fed, EndsBetween, EndsAtLine, EndsAfter, ReadsToLine, ReadsAll, given_of}
+use Rattle.jf_input.specs.Feeds.{HandsOn, IsGathered, Fed, EndsBetween, EndsAtLine, EndsAfter, ReadsToLine, ReadsAll, front_of_line}
 use Rattle.jf_input.specs.FeedsThrough.{IsPutThrough, IsPutNext, AddsAtEnd, GoesThrough}
 use Rattle.jf_input.specs.declared.feeding.Feeding.{Feeding}
 use Rattle.jf_input.specs.declared.feeding.Feeding.TheVariants as feeding
@@ -129,7 +129,7 @@ module _ {M F : Type 0} {takes : M → List ℕ → M → Result (List ℕ) F �
 
     -- the machine stopped in it, and all that was gathered before was put through
     pub through_stopped : {ends : M → M → Result (List ℕ) F → Type 0} {piece : ℕ} {why : F} {is_cut : Bool} {text'' : Option (List ℕ)} → IsLineFound held.bytes source' → length (after_first is_line_feed held.bytes) < piece
-        → ((whole : List ℕ) → line ≡ given_of whole → takes now whole next (Err why)) → IsPutNext was_cut is_cut text' text'' out → GoesThrough takes ends quiet piece (feeding.Stopped why) is_cut old next source source' text text''
+        → ((whole : List ℕ) → line ≡ front_of_line whole → takes now whole next (Err why)) → IsPutNext was_cut is_cut text' text'' out → GoesThrough takes ends quiet piece (feeding.Stopped why) is_cut old next source source' text text''
     through_stopped {why = why} {is_cut = is_cut} {text'' = text''} found few stops put =
         goes_through (fed_at_line f.so_far front {text'' = Some (f.said ++ out)} (feeding.Stopped why) found few (λ whole given. (stops whole given, refl))) (λ e. absurd (cc))
         (put_through_next was_cut is_cut text text' text'' f.said out f.put put)

@@ -8,8 +8,8 @@ use Rattle.jf_input.specs.declared.feeding.Feeding.{Feeding}
 use Rattle.jf_input.specs.declared.feeding.Feeding.TheVariants as feeding
 
 -- what a machine is given of a line: of a long one so much of its front that it is seen to be long
-abbrev pub given_of : List ℕ → List ℕ
-given_of line = take (max_line + 1) line
+abbrev pub front_of_line : List ℕ → List ℕ
+front_of_line line = take (max_line + 1) line
 
 -- these lines were taken one after another, and this text is what they add
 abbrev pub Took : {M F : Type 0} → (M → List ℕ → M → Result (List ℕ) F → Type 0) → M → List (List ℕ) → M → List ℕ → Type 0
@@ -18,7 +18,7 @@ Took takes old (line ∷ ls) new text = (mid : _) × (t : List ℕ) × (more : L
 
 -- whatever the effect on the machine of a line of which this is given, it is quiet
 abbrev pub IsQuietLine : {M F : Type 0} → (M → List ℕ → M → Result (List ℕ) F → Type 0) → (M → M → Type 0) → M → List ℕ → Type 0
-IsQuietLine {M} {F} takes quiet old line = (whole : List ℕ) → line ≡ given_of whole → (new : M) (r : Result (List ℕ) F) → takes old whole new r → quiet old new
+IsQuietLine {M} {F} takes quiet old line = (whole : List ℕ) → line ≡ front_of_line whole → (new : M) (r : Result (List ℕ) F) → takes old whole new r → quiet old new
 
 -- these lines were taken too, and all were quiet
 abbrev pub GoesOnQuietly : {M F : Type 0} → (M → List ℕ → M → Result (List ℕ) F → Type 0) → (M → M → Type 0) → M → List (List ℕ) → M → Type 0

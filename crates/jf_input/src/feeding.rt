@@ -5,7 +5,7 @@ ghost use Rattle.jf_path.specs.Faults.{HasCause};
 ghost use Rattle.jf_io.specs.declared.piece.TheConstants.{MAX_PIECE};
 ghost use Rattle.jf_io.specs.LineReader.{is_line_feed, IsShortened, IsFetched};
 ghost use Rattle.jf_io.specs.Sink.{IsCutShort};
-ghost use Rattle.jf_input.specs.Feeds.{given_of, max_gathered, IsQuietLine, Appends, HandsOn, Gathers, StopsGathering, EndsAfter, Fed};
+ghost use Rattle.jf_input.specs.Feeds.{front_of_line, max_gathered, IsQuietLine, Appends, HandsOn, Gathers, StopsGathering, EndsAfter, Fed};
 
 use crate::machine::{AtHand, LineMachine};
 use jf_io::{FetchFault, IoFailed, LineReader, Sink, Source, put_all};
@@ -128,9 +128,9 @@ fn feed_line<M: LineMachine, K: Sink>(
     after: &[u8],
 ) -> Result<(), Feeding<M::Stop>>
     requires { M.ready machine.old }
-    ensures ok { (whole : List ℕ) → line.now ≡ given_of whole → OnOk result ((t : List ℕ) × M.takes machine.old whole machine.new (Ok t) × Gathers M.quiet machine.old machine.new (K.text sink.old) (K.text sink.new) out.old out.new t) }
+    ensures ok { (whole : List ℕ) → line.now ≡ front_of_line whole → OnOk result ((t : List ℕ) × M.takes machine.old whole machine.new (Ok t) × Gathers M.quiet machine.old machine.new (K.text sink.old) (K.text sink.new) out.old out.new t) }
     ensures ready { OnOk result (M.ready machine.new) }
-    ensures err { (whole : List ℕ) → line.now ≡ given_of whole → IfErr result (λ how. StopsGathering M.takes M.quiet how machine.old whole machine.new (K.text sink.old) (K.text sink.new) out.old) }
+    ensures err { (whole : List ℕ) → line.now ≡ front_of_line whole → IfErr result (λ how. StopsGathering M.takes M.quiet how machine.old whole machine.new (K.text sink.old) (K.text sink.new) out.old) }
     ensures unstopped { result ≡ Err Feeding.ReadFault → ⊥ }
     ensures cause { result ≡ Err Feeding.WriteFault → HasCause (K.faults sink.old) (K.faults sink.new) }
     ensures counts { K.faults sink.old ≤ K.faults sink.new }

@@ -2,7 +2,7 @@
 ghost use Rattle.std.specs.Prelude.{◌≡◌, ◌≢◌, ◌⊎◌, ◌-◌, ◌<◌, ◌≤◌, ◌^◌, Err, OnOk, OnErr, IfErr, List, ℕ, Ok, [], Some, IsTrue, true};
 ghost use Rattle.jf_path.specs.Faults.{HasCause};
 ghost use Rattle.jf_io.specs.declared.piece.TheConstants.{MAX_PIECE};
-ghost use Rattle.jf_input.specs.Feeds.{given_of, HandsOn, Gathers, EndsAfter};
+ghost use Rattle.jf_input.specs.Feeds.{front_of_line, HandsOn, Gathers, EndsAfter};
 ghost use Rattle.jf_input.specs.FeedsThrough.{IsPutNext, GoesThrough};
 
 use crate::feeding::{Feeding, is_due_before, next_line};
@@ -100,9 +100,9 @@ fn line_through<M: LineMachine, K: Sink>(
     after: &[u8],
 ) -> Result<(), M::Stop>
     requires { M.ready machine.old }
-    ensures ok { OnOk result ((put : List ℕ) × IsPutNext is_cut.old is_cut.new (K.text sink.old) (K.text sink.new) put × ((whole : List ℕ) → line.now ≡ given_of whole → (t : List ℕ) × M.takes machine.old whole machine.new (Ok t) × Gathers M.quiet machine.old machine.new (Some []) (Some put) out.old out.new t)) }
+    ensures ok { OnOk result ((put : List ℕ) × IsPutNext is_cut.old is_cut.new (K.text sink.old) (K.text sink.new) put × ((whole : List ℕ) → line.now ≡ front_of_line whole → (t : List ℕ) × M.takes machine.old whole machine.new (Ok t) × Gathers M.quiet machine.old machine.new (Some []) (Some put) out.old out.new t)) }
     ensures ready { OnOk result (M.ready machine.new) }
-    ensures err { (whole : List ℕ) → line.now ≡ given_of whole → IfErr result (λ why. M.takes machine.old whole machine.new (Err why)) }
+    ensures err { (whole : List ℕ) → line.now ≡ front_of_line whole → IfErr result (λ why. M.takes machine.old whole machine.new (Err why)) }
     ensures put { OnErr result (IsPutNext is_cut.old is_cut.new (K.text sink.old) (K.text sink.new) out.old) }
     ensures cause { is_cut.new ≡ true → (is_cut.old ≡ true) ⊎ HasCause (K.faults sink.old) (K.faults sink.new) }
     ensures counts { K.faults sink.old ≤ K.faults sink.new }

@@ -1,6 +1,6 @@
 // What takes an input line by line.
 ghost use Rattle.std.specs.Prelude.{◌≡◌, ℕ, List, ◌++◌, Result, Ok, Err, OnOk, OnErr, IfErr, IsTrue};
-ghost use Rattle.jf_input.specs.Feeds.{given_of, IsQuietLine};
+ghost use Rattle.jf_input.specs.Feeds.{front_of_line, IsQuietLine};
 
 use jf_path::Bytes;
 use std::alloc::Global;
@@ -40,10 +40,10 @@ pub trait LineMachine {
     /// once; what the line does and adds doesn't depend on it. If the machine stops, nothing is appended.
     fn take_line(&mut self, alloc: Global, next: AtHand, out: &mut Bytes) -> Result<(), Self::Stop>
         requires { ready self.old }
-        ensures ok { OnOk result ((t : List ℕ) × (out.new ≡ out.old ++ t) × ((whole : List ℕ) → next.entry.line.now ≡ given_of whole → takes self.old whole self.new (Ok t))) }
+        ensures ok { OnOk result ((t : List ℕ) × (out.new ≡ out.old ++ t) × ((whole : List ℕ) → next.entry.line.now ≡ front_of_line whole → takes self.old whole self.new (Ok t))) }
         ensures ready { OnOk result (ready self.new) }
         ensures silent { OnErr result (out.new ≡ out.old) }
-        ensures err { (whole : List ℕ) → next.entry.line.now ≡ given_of whole → IfErr result (λ why. takes self.old whole self.new (Err why)) };
+        ensures err { (whole : List ℕ) → next.entry.line.now ≡ front_of_line whole → IfErr result (λ why. takes self.old whole self.new (Err why)) };
 
     /// Takes the end of the input, and appends what it adds.
     fn take_end(&mut self, alloc: Global, out: &mut Bytes) -> Result<(), Self::Stop>

@@ -5,7 +5,7 @@ use Rattle.jf_disk.specs.Missing.{files_found}
 use Rattle.jf_disk.specs.declared.side.Side.TheVariants as side
 use Rattle.jf_folder.specs.Any.{any_history, any_missing, is_gone}
 use Rattle.jf_folder.specs.Begun.{store_refusal}
-use Rattle.jf_folder.specs.Reading.{seen_of}
+use Rattle.jf_folder.specs.Reading.{seen_file}
 use Rattle.jf_folder.specs.declared.cause.FaultCause.{FaultCause}
 use Rattle.jf_check.specs.Written.{WritesCheck}
 use Rattle.jf_check.specs.declared.fault.Unchecked.{Unchecked}
@@ -23,7 +23,7 @@ pub record ShowsFiles (a b : Option (List ℕ)) (s : SeenFiles) : Type 0 where
   pub history : any_history s.disk ≡ Some (start (files_found a b))
   pub a_missing : any_missing s.disk side.A ≡ is_gone a
   pub b_missing : any_missing s.disk side.B ≡ is_gone b
-  pub refusal_is : s.refusal ≡ store_refusal (seen_of a) (seen_of b)
+  pub refusal_is : s.refusal ≡ store_refusal (seen_file a) (seen_file b)
 
 -- ---- after the call
 -- the status of the program, by that of the call and by why no store would be opened over the files. The files were reported
@@ -62,6 +62,6 @@ check_cause (Err why) refusal = None
 pub record IsCheckEnd (a b : Option (List ℕ)) (text text' : Option (List ℕ)) (e : Ending) : Type 0 where
   pub outcome : Result StoreCheck Unchecked
   pub written : WritesCheck outcome a b text text'
-  pub status_is : e.status ≡ check_status outcome (store_refusal (seen_of a) (seen_of b))
-  pub cause_is : e.cause ≡ check_cause outcome (store_refusal (seen_of a) (seen_of b))
+  pub status_is : e.status ≡ check_status outcome (store_refusal (seen_file a) (seen_file b))
+  pub cause_is : e.cause ≡ check_cause outcome (store_refusal (seen_file a) (seen_file b))
   pub note_is : e.note ≡ None

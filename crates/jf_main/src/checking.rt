@@ -32,7 +32,7 @@ impl SeenFiles {
     // What files of these bytes hold. Refused only if memory runs out.
     fn of(alloc: Global, files: FolderBytes) -> Result<SeenFiles, FileRefused>
         ensures shown { IfOk result (ShowsFiles (option_map (λ v. v.items) files.a) (option_map (λ v. v.items) files.b)) }
-        ensures unrefused { IfErr result (λ why. why ≡ FileRefused.Memory) }
+        ensures err { IfErr result (λ why. why ≡ FileRefused.Memory) }
     {
         let refusal = files.refusal();
         match AnyDisk::of_bytes(alloc, files, CHECK_CALLS) {

@@ -7,7 +7,7 @@ use Rattle.jf_io.specs.Lines.{lines}
 use Rattle.jf_io.specs.declared.piece.TheConstants.{MAX_PIECE}
 use Rattle.jf_text.specs.Words.{name_of, is_long}
 use Rattle.jf_text.proofs.HexText.{bytes_within-many}
-use Rattle.jf_input.specs.Feeds.{given_of, Took, ReadsAll, ReadsFew, Fed}
+use Rattle.jf_input.specs.Feeds.{front_of_line, Took, ReadsAll, ReadsFew, Fed}
 use Rattle.jf_input.specs.declared.feeding.Feeding.{Feeding}
 use Rattle.jf_input.specs.declared.feeding.Feeding.TheVariants as feeding
 use Rattle.jf_input.proofs.Given.{given_alike}
@@ -25,7 +25,7 @@ name_of-long line long = bytes_within-many 1 128 line (let more = ltb-true 8500 
 after_name_line-long : (s : NamesSoFar) (line other : List ℕ) → is_long line ≡ true → is_long other ≡ true → after_name_line s line ≡ after_name_line s other
 after_name_line-long s line other a b = ap (λ (o : Option (List ℕ)). cond (nat_le s.at max_names) (option_map (after_name s) o) None) (name_of-long line a ∙ sym (name_of-long other b))
 
-takes-whole : (s next : NamesSoFar) (line whole : List ℕ) (r : Result (List ℕ) NamesFault) → line ≡ given_of whole → TakesName s line next r → TakesName s whole next r
+takes-whole : (s next : NamesSoFar) (line whole : List ℕ) (r : Result (List ℕ) NamesFault) → line ≡ front_of_line whole → TakesName s line next r → TakesName s whole next r
 takes-whole s next line whole r given takes = by_result r takes
   where
     same : after_name_line s whole ≡ after_name_line s line
@@ -40,11 +40,11 @@ takes-whole s next line whole r given takes = by_result r takes
     by_result (Err fault.WriteFault) k = k
 
 pub line-taken : (s next : NamesSoFar) (line out : List ℕ) (r : Result (Unit {0}) NamesFault) → OnOk r (TakesName s line next (Ok []))
-    → OnOk r ((t : List ℕ) × (out ≡ out ++ t) × ((whole : List ℕ) → line ≡ given_of whole → TakesName s whole next (Ok t)))
+    → OnOk r ((t : List ℕ) × (out ≡ out ++ t) × ((whole : List ℕ) → line ≡ front_of_line whole → TakesName s whole next (Ok t)))
 line-taken s next line out (Ok u) taken = ([], sym (append-nil out), λ whole given. takes-whole s next line whole (Ok []) given taken)
 line-taken s next line out (Err why) taken = tt
 
-pub line-stopped : (s next : NamesSoFar) (line whole : List ℕ) (r : Result (Unit {0}) NamesFault) → line ≡ given_of whole → IfErr r (λ why. TakesName s line next (Err why)) → IfErr r (λ why. TakesName s whole next (Err why))
+pub line-stopped : (s next : NamesSoFar) (line whole : List ℕ) (r : Result (Unit {0}) NamesFault) → line ≡ front_of_line whole → IfErr r (λ why. TakesName s line next (Err why)) → IfErr r (λ why. TakesName s whole next (Err why))
 line-stopped s next line whole (Ok u) given taken = tt
 line-stopped s next line whole (Err why) given taken = takes-whole s next line whole (Err why) given taken
 

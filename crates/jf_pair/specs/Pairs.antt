@@ -35,6 +35,6 @@ abbrev pub StopsBetween : History → History → List Framed → List Framed �
 StopsBetween old new rs rs' = GoesOn old new (λ f. HoldsLive f rs ⊎ HoldsLive f rs')
 
 -- the records of the log that an opening returns; no record if it returns no log
-abbrev pub read_by : Option Log → List Framed
-read_by None = []
-read_by (Some log) = log.records
+abbrev pub log_records : Option Log → List Framed
+log_records None = []
+log_records (Some log) = log.records

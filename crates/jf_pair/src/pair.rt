@@ -7,7 +7,7 @@ ghost use Rattle.jf_frame.specs.Framed.{Framed};
 ghost use Rattle.jf_frame.specs.Framing.{IsFrame, number_of};
 ghost use Rattle.jf_frame.specs.Logs.{appended_record};
 ghost use Rattle.jf_pair.specs.Files.{HoldsLive, is_begun, is_checkpoint, generation_of, outer_damage};
-ghost use Rattle.jf_pair.specs.Pairs.{IsInStep, StopsBetween, read_by};
+ghost use Rattle.jf_pair.specs.Pairs.{IsInStep, StopsBetween, log_records};
 
 use crate::checkpoint::write_first;
 use crate::fault::PairFault;
@@ -46,8 +46,8 @@ impl Pair {
     /// holds a record, and the first checkpoint then goes to side A. Refused if the disk fails, if the files are
     /// damaged, or if memory runs out. Whatever it returns, the files are unchanged.
     pub fn open<D: Disk>(alloc: Global, disk: &mut D) -> Result<(Pair, Option<Log>), PairFault>
-        ensures in_step { (h : History) → D.history disk.old ≡ Some h → IfOk result (λ r. (g : History) × (D.history disk.new ≡ Some g) × IsInStep r.0 (read_by r.1) g.now) }
-        ensures found { (h : History) → D.history disk.old ≡ Some h → IfOk result (λ r. HoldsLive (reads h) (read_by r.1)) }
+        ensures in_step { (h : History) → D.history disk.old ≡ Some h → IfOk result (λ r. (g : History) × (D.history disk.new ≡ Some g) × IsInStep r.0 (log_records r.1) g.now) }
+        ensures found { (h : History) → D.history disk.old ≡ Some h → IfOk result (λ r. HoldsLive (reads h) (log_records r.1)) }
         ensures given { IfOk result (λ r. (r.1 ≡ None) ↔ (r.0.is_live ≡ false)) }
         ensures first { IfOk result (λ r. r.0.is_live ≡ false → r.0.side ≡ Side.B) }
         ensures sound { IfOk result (λ r. r.0.failed ≡ false) }
@@ -155,7 +155,7 @@ fn pair_of(alloc: Global, live: Log, other: Log) -> (Pair, Option<Log>)
     ensures side { result.0.side ≡ live.side }
     ensures offset { result.0.offset ≡ live.offset }
     ensures sound { result.0.failed ≡ false }
-    ensures records { read_by result.1 ≡ live.records }
+    ensures records { log_records result.1 ≡ live.records }
     ensures live { (result.0.is_live ≡ true) ↔ (0 < length live.records) }
     ensures given { (result.1 ≡ None) ↔ (result.0.is_live ≡ false) }
     ensures log { IfSome result.1 (λ log. (log ≡ live) × (0 < length log.records)) }

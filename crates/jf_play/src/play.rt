@@ -269,7 +269,7 @@ pub fn is_answered<H: Threads + Wait + Sync>(
 }
 
 /// Runs a script over a new disk, as `is_answered` does, with letters for the roots in `want`.
-pub fn is_told<H: Threads + Wait + Sync>(
+pub fn is_answered_by<H: Threads + Wait + Sync>(
     rt: &H,
     alloc: Global,
     script: &str,

@@ -4,7 +4,7 @@ use Rattle.std.specs.Prelude.{take, OnOk, IfErr}
 use Rattle.std.proofs.Math.Seq.{take-length}
 use Rattle.std.proofs.lemmas.List.{take-append-le, length-take-le}
 use Rattle.jf_restore.specs.RestoreValue.{RestoreValue}
-use Rattle.jf_input.specs.Feeds.{given_of, Took}
+use Rattle.jf_input.specs.Feeds.{front_of_line, Took}
 use Rattle.jf_input.proofs.Given.{given_alike}
 use Rattle.jf_receive.specs.Chunks.{chunks, refusal_decided_by}
 use Rattle.jf_receive.specs.Laws.{RefusalsComeAtTheirLine, LongChunkLinesAreAlike}
@@ -43,7 +43,7 @@ line-refused s next line (Err why) is (inl so) = inr (so, refused_stage next.sta
 line-refused s next line (Err why) is (inr out) = let stopped : Err why ≡ Err fault.Memory = is ∙ ap (λ (m : Restoring). line_result m.stage) out.1 in let same : why ≡ fault.Memory = cc in inl same
 
 -- the result for what is given of a line is the result for the line
-pub takes-whole : (s next : Restoring) (line whole : List ℕ) (r : Result (List ℕ) BlockFault) → LongChunkLinesAreAlike → line ≡ given_of whole → TakesBlockLine s line next r → TakesBlockLine s whole next r
+pub takes-whole : (s next : Restoring) (line whole : List ℕ) (r : Result (List ℕ) BlockFault) → LongChunkLinesAreAlike → line ≡ front_of_line whole → TakesBlockLine s line next r → TakesBlockLine s whole next r
 takes-whole s next line whole r law given takes = by_result r takes
   where
     same : restoring_after s line ≡ restoring_after s whole
@@ -56,11 +56,11 @@ takes-whole s next line whole r law given takes = by_result r takes
 
 -- the same, as a machine's clauses say it
 pub line-taken : (s next : Restoring) (line out : List ℕ) (r : Result (Unit {0}) BlockFault) → LongChunkLinesAreAlike → OnOk r (TakesBlockLine s line next (Ok []))
-    → OnOk r ((t : List ℕ) × (out ≡ out ++ t) × ((whole : List ℕ) → line ≡ given_of whole → TakesBlockLine s whole next (Ok t)))
+    → OnOk r ((t : List ℕ) × (out ≡ out ++ t) × ((whole : List ℕ) → line ≡ front_of_line whole → TakesBlockLine s whole next (Ok t)))
 line-taken s next line out (Ok u) law taken = ([], sym (append-nil out), λ whole given. takes-whole s next line whole (Ok []) law given taken)
 line-taken s next line out (Err why) law taken = tt
 
-pub line-stopped : (s next : Restoring) (line whole : List ℕ) (r : Result (Unit {0}) BlockFault) → LongChunkLinesAreAlike → line ≡ given_of whole → IfErr r (λ why. TakesBlockLine s line next (Err why))
+pub line-stopped : (s next : Restoring) (line whole : List ℕ) (r : Result (Unit {0}) BlockFault) → LongChunkLinesAreAlike → line ≡ front_of_line whole → IfErr r (λ why. TakesBlockLine s line next (Err why))
     → IfErr r (λ why. TakesBlockLine s whole next (Err why))
 line-stopped s next line whole (Ok u) law given taken = tt
 line-stopped s next line whole (Err why) law given taken = takes-whole s next line whole (Err why) law given taken

@@ -18,7 +18,7 @@ use Rattle.jf_path.proofs.ListLaws.{All-of, All-weaker, Contains-map}
 use Rattle.jf_path.proofs.FilterLaws.{filter-same, filter-Contains, filter-passes, Contains-filter}
 use Rattle.jf_path.proofs.NumberLaws.{le_so, number_tells, other_number}
 use Rattle.jf_codec.specs.declared.format.Format.{Format}
-use Rattle.jf_standing.specs.Named.{Named, not_stale, is_written, is_stale, written_at, stale_at}
+use Rattle.jf_standing.specs.Named.{Named, not_stale, is_written, is_stale, written_nodes_at, stale_nodes_at}
 use Rattle.jf_standing.specs.Standing.{Standing, is_named, marked_node, unmarked_node, with_commit}
 use Rattle.jf_standing.specs.Building.{apart}
 use Rattle.jf_standing.specs.Sound.{IsSound}
@@ -68,29 +68,29 @@ none_before w (n ∷ ns) all some = ap (λ b. cond b (n ∷ filter (is_written_b
     not_yet : (v : ℕ) → w ≤ v → nat_le v (w - 1) ≡ false
     not_yet v le = grind (arith, nat_tests)
 
-pub split-written : (w : ℕ) (ns : List Named) → 1 ≤ w → IsTrue (are_rising (map (λ n. n.0) ns)) → filter (is_written_by w) ns ≡ filter (is_written_by (w - 1)) ns ++ written_at w ns
+pub split-written : (w : ℕ) (ns : List Named) → 1 ≤ w → IsTrue (are_rising (map (λ n. n.0) ns)) → filter (is_written_by w) ns ≡ filter (is_written_by (w - 1)) ns ++ written_nodes_at w ns
 split-written w [] some rises = refl
 split-written w (n ∷ ns) some rises = elim (cases_lt n.0.version w) [
   | inl lt ↦
       ap (λ b. cond b (n ∷ filter (is_written_by w) ns) (filter (is_written_by w) ns)) (le_so n.0.version w (omega arith))
       ∙ ap (λ t. n ∷ t) (split-written w ns some (later_rise n ns rises))
-      ∙ sym (ap₂ (λ a b. cond a (n ∷ filter (is_written_by (w - 1)) ns) (filter (is_written_by (w - 1)) ns) ++ cond b (n ∷ written_at w ns) (written_at w ns)) (le_so n.0.version (w - 1) (omega arith)) (other_number n.0.version w (λ is. omega arith)))
+      ∙ sym (ap₂ (λ a b. cond a (n ∷ filter (is_written_by (w - 1)) ns) (filter (is_written_by (w - 1)) ns) ++ cond b (n ∷ written_nodes_at w ns) (written_nodes_at w ns)) (le_so n.0.version (w - 1) (omega arith)) (other_number n.0.version w (λ is. omega arith)))
   | inr ge ↦
       let all : AllByRecursion (λ n. w ≤ n.0.version) (n ∷ ns) = (ge, All-weaker _ _ (λ k later. omega arith) ns (rising-versions n ns rises)) in
       filter-same (is_written_by w) (is_written w) (n ∷ ns) (All-weaker _ _ (λ k le. at_or_after k.0.version le) (n ∷ ns) all)
-      ∙ ap (λ t. t ++ written_at w (n ∷ ns)) (sym (none_before w (n ∷ ns) all some))
+      ∙ ap (λ t. t ++ written_nodes_at w (n ∷ ns)) (sym (none_before w (n ∷ ns) all some))
 ]
   where
     at_or_after : (v : ℕ) → w ≤ v → nat_le v w ≡ (v == w)
     at_or_after v le = grind (arith, nat_tests)
 
 -- ---- the landing that made a version
-stale-named : (w : ℕ) (ns : List Named) (n : Named) → IsTrue (are_rising (map (λ n. n.0) ns)) → Contains ns n → is_named n.0 (map (λ (k : Named). k.0) (stale_at w ns)) ≡ is_stale w n
-stale-named w ns n rises has = same_test (is_named n.0 (map (λ (k : Named). k.0) (stale_at w ns))) (is_stale w n)
+stale-named : (w : ℕ) (ns : List Named) (n : Named) → IsTrue (are_rising (map (λ n. n.0) ns)) → Contains ns n → is_named n.0 (map (λ (k : Named). k.0) (stale_nodes_at w ns)) ≡ is_stale w n
+stale-named w ns n rises has = same_test (is_named n.0 (map (λ (k : Named). k.0) (stale_nodes_at w ns))) (is_stale w n)
     (λ is.
-    let k = map-which (λ (k : Named). k.0) (stale_at w ns) n.0 (named-tells n.0 (map (λ (k : Named). k.0) (stale_at w ns)) is) in
+    let k = map-which (λ (k : Named). k.0) (stale_nodes_at w ns) n.0 (named-tells n.0 (map (λ (k : Named). k.0) (stale_nodes_at w ns)) is) in
     ap (is_stale w) (sym (rising-one_name ns k.0 n rises (filter-Contains (is_stale w) ns k.0 k.1) has k.2)) ∙ filter-passes (is_stale w) ns k.0 k.1)
-    (λ is. named-so n.0 (map (λ (k : Named). k.0) (stale_at w ns)) (Contains-map (λ (k : Named). k.0) (stale_at w ns) n (Contains-filter (is_stale w) ns n has is)))
+    (λ is. named-so n.0 (map (λ (k : Named). k.0) (stale_nodes_at w ns)) (Contains-map (λ (k : Named). k.0) (stale_nodes_at w ns) n (Contains-filter (is_stale w) ns n has is)))
 
 drop-first : (i : ℕ) (xs : List (List ℕ)) → i < length xs → slice_index_or xs i [] ∷ drop (i + 1) xs ≡ drop i xs
 drop-first i [] lt = absurd (omega arith)
@@ -138,9 +138,9 @@ module _ (s : Standing) (w : ℕ) (late : s.floor < w) (rises : IsTrue (are_risi
       ap₂ (λ a b. a ++ b)
       (map-map (named_by (w - 1)) (marked_node (landing_making w s)) (filter (is_written_by (w - 1)) s.nodes)
       ∙ map-each (λ n. marked_node (landing_making w s) (named_by (w - 1) n)) (named_by w) (filter (is_written_by (w - 1)) s.nodes) (All-each_element _ (filter (is_written_by (w - 1)) s.nodes) (λ n has. marked_by n (filter-Contains (is_written_by (w - 1)) s.nodes n has))))
-      (map-map without_since unmarked_node (written_at w s.nodes)
-      ∙ map-each (λ n. unmarked_node (without_since n)) (named_by w) (written_at w s.nodes) (All-each_element _ (written_at w s.nodes) (λ n has. fresh_by n (filter-Contains (is_written w) s.nodes n has) (filter-passes (is_written w) s.nodes n has))))
-      ∙ sym (ap (map (named_by w)) (split-written w s.nodes (omega arith) rises) ∙ map-join (named_by w) (filter (is_written_by (w - 1)) s.nodes) (written_at w s.nodes))
+      (map-map without_since unmarked_node (written_nodes_at w s.nodes)
+      ∙ map-each (λ n. unmarked_node (without_since n)) (named_by w) (written_nodes_at w s.nodes) (All-each_element _ (written_nodes_at w s.nodes) (λ n has. fresh_by n (filter-Contains (is_written w) s.nodes n has) (filter-passes (is_written w) s.nodes n has))))
+      ∙ sym (ap (map (named_by w)) (split-written w s.nodes (omega arith) rises) ∙ map-join (named_by w) (filter (is_written_by (w - 1)) s.nodes) (written_nodes_at w s.nodes))
 
   -- the landing that made a version leads to it
   pub standing-landed : w ≤ s.head → s.head < length s.roots + w → with_commit (landing_making w s) (standing_by (w - 1) s) ≡ standing_by w s
@@ -153,11 +153,11 @@ module _ (s : Standing) (w : ℕ) (late : s.floor < w) (rises : IsTrue (are_risi
   pub landing-continues : Continues (standing_by (w - 1) s) (landing_making w s)
   landing-continues = record {
     next = omega arith;
-    fresh_own = All-each_element _ (map without_since (written_at w s.nodes)) (λ x has.
-        let n = map-which without_since (written_at w s.nodes) x has in
+    fresh_own = All-each_element _ (map without_since (written_nodes_at w s.nodes)) (λ x has.
+        let n = map-which without_since (written_nodes_at w s.nodes) x has in
         ap (λ (y : NodeName × PlainNode). y.0.version) (sym n.2) ∙ number_tells n.0.0.version w (filter-passes (is_written w) s.nodes n.0 n.1));
-    stale_known = All-each_element _ (map (λ (n : Named). n.0) (stale_at w s.nodes)) (λ name has.
-        let n = map-which (λ (n : Named). n.0) (stale_at w s.nodes) name has in
+    stale_known = All-each_element _ (map (λ (n : Named). n.0) (stale_nodes_at w s.nodes)) (λ name has.
+        let n = map-which (λ (n : Named). n.0) (stale_nodes_at w s.nodes) name has in
         let stood = filter-Contains (is_stale w) s.nodes n.0 n.1 in
         let since = number_tells n.0.2 w (filter-passes (is_stale w) s.nodes n.0 n.1) in
         let before = (All-of _ s.nodes n.0 numbered stood).later in

@@ -4,7 +4,7 @@ use Rattle.std.proofs.lemmas.Bool.Decides.{nat_tests}
 use Rattle.std.specs.List.{AllByRecursion}
 use Rattle.jf_path.proofs.ListLaws.{All-of}
 use Rattle.jf_path.proofs.FilterLaws.{filter-map, filter-same, filter-filter}
-use Rattle.jf_standing.specs.Named.{Named, not_stale, is_alive, is_written, is_stale, alive_at, written_at, stale_at}
+use Rattle.jf_standing.specs.Named.{Named, not_stale, is_alive, is_written, is_stale, alive_nodes_at, written_nodes_at, stale_nodes_at}
 use Rattle.jf_standing.proofs.Lists.{All-each_element}
 use Rattle.jf_replay.specs.Cuts.{is_written_by, named_by, nodes_by}
 
@@ -31,11 +31,11 @@ filter-nodes_by test w ns same =
     ∙ ap (map (named_by w)) (filter-filter (is_written_by w) (λ n. test (named_by w n)) ns ∙ filter-same (λ n. is_written_by w n && test (named_by w n)) test ns same)
 
 module _ (w : ℕ) (ns : List Named) (last : w < not_stale) (x : ℕ) (low : x ≤ w) where
-  pub alive-nodes_by : alive_at x (nodes_by w ns) ≡ map (named_by w) (alive_at x ns)
+  pub alive-nodes_by : alive_nodes_at x (nodes_by w ns) ≡ map (named_by w) (alive_nodes_at x ns)
   alive-nodes_by = filter-nodes_by (is_alive x) w ns (All-each_element _ ns (λ n has. alive_by n.0.version n.2 x w low last))
 
-  pub written-nodes_by : written_at x (nodes_by w ns) ≡ map (named_by w) (written_at x ns)
+  pub written-nodes_by : written_nodes_at x (nodes_by w ns) ≡ map (named_by w) (written_nodes_at x ns)
   written-nodes_by = filter-nodes_by (is_written x) w ns (All-each_element _ ns (λ n has. written_by n.0.version x w low))
 
-  pub stale-nodes_by : AllByRecursion (λ n. n.0.version < n.2) ns → stale_at x (nodes_by w ns) ≡ map (named_by w) (stale_at x ns)
+  pub stale-nodes_by : AllByRecursion (λ n. n.0.version < n.2) ns → stale_nodes_at x (nodes_by w ns) ≡ map (named_by w) (stale_nodes_at x ns)
   stale-nodes_by before = filter-nodes_by (is_stale x) w ns (All-each_element _ ns (λ n has. stale_by n.0.version n.2 x w (All-of (λ n. n.0.version < n.2) ns n before has) low last))

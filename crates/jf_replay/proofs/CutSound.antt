@@ -11,7 +11,7 @@ use Rattle.jf_hash.specs.Maps.{same_key}
 use Rattle.jf_hash.specs.Roots.{root}
 use Rattle.jf_model.specs.Nodes.{Path, under, is_node, is_fresh, plain_node}
 use Rattle.jf_codec.specs.declared.format.Format.{Format}
-use Rattle.jf_standing.specs.Named.{Named, not_stale, is_alive, is_at, alive_at, written_at, stale_at, version_at, leaf_entry, leaf_entries, map_at}
+use Rattle.jf_standing.specs.Named.{Named, not_stale, is_alive, is_at, alive_nodes_at, written_nodes_at, stale_nodes_at, version_at, leaf_entry, leaf_entries, map_at}
 use Rattle.jf_standing.specs.Standing.{Standing}
 use Rattle.jf_standing.specs.Sound.{IsSound, is_counted, IsVersion, IsStep, StandAt}
 use Rattle.jf_standing.proofs.Counts.{count-map}
@@ -32,14 +32,14 @@ module _ (w : ℕ) (ns : List Named) (last : w < not_stale) (x : ℕ) (low : x �
   -- an earlier version has the same map
   pub map-nodes_by : map_at x (nodes_by w ns) ≡ map_at x ns
   unfolding map_at
-  map-nodes_by = ap from_entries (ap leaf_entries (alive-nodes_by w ns last x low) ∙ leaf_entries-named_by w (alive_at x ns))
+  map-nodes_by = ap from_entries (ap leaf_entries (alive-nodes_by w ns last x low) ∙ leaf_entries-named_by w (alive_nodes_at x ns))
 
   -- and its nodes have the same versions
   pub version-nodes_by : (p : Path) → version_at x (nodes_by w ns) p ≡ version_at x ns p
   version-nodes_by p = ap (λ vs. slice_index_or vs 0 0) (
       ap (λ xs. map (λ (n : Named). n.0.version) (filter (is_at p) xs)) (alive-nodes_by w ns last x low)
-      ∙ ap (map (λ (n : Named). n.0.version)) (filter-map (is_at p) (named_by w) (alive_at x ns))
-      ∙ versions_named_by w (filter (is_at p) (alive_at x ns)))
+      ∙ ap (map (λ (n : Named). n.0.version)) (filter-map (is_at p) (named_by w) (alive_nodes_at x ns))
+      ∙ versions_named_by w (filter (is_at p) (alive_nodes_at x ns)))
 
 stand-named_by : (test : Path → Bool) (w : ℕ) (ns ms : List Named) → ms ≡ map (named_by w) ns → StandAt test ns → StandAt test ms
 stand-named_by test w ns ms is stand p = ap (count_by (is_at p)) is ∙ count-map (is_at p) (named_by w) ns ∙ stand p
@@ -61,13 +61,13 @@ module _ (fmt : Format) (s : Standing) (sound : IsSound fmt s) (w : ℕ) (from :
       let is = alive-nodes_by w s.nodes last x low in
       let m = map-nodes_by w s.nodes last x low in
       record {
-        one_leaf = subst (λ es. IsDistinct same_key (map (λ (e : List ℕ × List ℕ). e.0) es)) (sym (ap leaf_entries is ∙ leaf_entries-named_by w (alive_at x s.nodes))) v.one_leaf;
-        nodes = All-each_element _ (alive_at x cut_nodes) (λ n has.
-            let k = map-which (named_by w) (alive_at x s.nodes) n (subst (λ ns. Contains ns n) is has) in
+        one_leaf = subst (λ es. IsDistinct same_key (map (λ (e : List ℕ × List ℕ). e.0) es)) (sym (ap leaf_entries is ∙ leaf_entries-named_by w (alive_nodes_at x s.nodes))) v.one_leaf;
+        nodes = All-each_element _ (alive_nodes_at x cut_nodes) (λ n has.
+            let k = map-which (named_by w) (alive_nodes_at x s.nodes) n (subst (λ ns. Contains ns n) is has) in
             let p = n.0.path in
             let at : k.0.0.path ≡ p = ap (λ (z : Named). z.0.path) k.2 in
             sym (ap (λ (z : Named). z.1) k.2)
-            ∙ All-of _ (alive_at x s.nodes) k.0 v.nodes k.1
+            ∙ All-of _ (alive_nodes_at x s.nodes) k.0 v.nodes k.1
             ∙ ap (λ q. plain_node (is_counted fmt) (λ i. version_at x s.nodes (q ++ i ∷ [])) (length q) (under 0 q (entries (map_at x s.nodes)))) at
             ∙ ap (λ (g : ℕ → ℕ). plain_node (is_counted fmt) g (length p) (under 0 p (entries (map_at x s.nodes)))) (let e : (λ (i : ℕ). version_at x s.nodes (p ++ i ∷ [])) ≡ (λ i. version_at x cut_nodes (p ++ i ∷ [])) = λ j i. sym (version-nodes_by w s.nodes last x low (p ++ i ∷ [])) j in e)
             ∙ ap (λ mm. plain_node (is_counted fmt) (λ i. version_at x cut_nodes (p ++ i ∷ [])) (length p) (under 0 p (entries mm))) (sym m));
@@ -81,11 +81,11 @@ module _ (fmt : Format) (s : Standing) (sound : IsSound fmt s) (w : ℕ) (from :
       let before = map-nodes_by w s.nodes last (x - 1) (omega arith) in
       let stale = stale-nodes_by w s.nodes last x low (versions-before fmt s sound) in
       record {
-        fresh = λ p. stand-named_by (is_fresh (entries (map_at (x - 1) s.nodes)) (entries (map_at x s.nodes))) w (written_at x s.nodes) (written_at x cut_nodes) (written-nodes_by w s.nodes last x low) step.fresh p ∙ ap (λ b. cond b 1 0) (sym (ap₂ (λ a b. is_fresh (entries a) (entries b) p) before here));
-        stale = λ p. stand-named_by (is_fresh (entries (map_at x s.nodes)) (entries (map_at (x - 1) s.nodes))) w (stale_at x s.nodes) (stale_at x cut_nodes) stale step.stale p ∙ ap (λ b. cond b 1 0) (sym (ap₂ (λ a b. is_fresh (entries b) (entries a) p) before here));
-        stood = All-each_element _ (stale_at x cut_nodes) (λ n has.
-            let k = map-which (named_by w) (stale_at x s.nodes) n (subst (λ ns. Contains ns n) stale has) in
-            let alive = All-of _ (stale_at x s.nodes) k.0 step.stood k.1 in
+        fresh = λ p. stand-named_by (is_fresh (entries (map_at (x - 1) s.nodes)) (entries (map_at x s.nodes))) w (written_nodes_at x s.nodes) (written_nodes_at x cut_nodes) (written-nodes_by w s.nodes last x low) step.fresh p ∙ ap (λ b. cond b 1 0) (sym (ap₂ (λ a b. is_fresh (entries a) (entries b) p) before here));
+        stale = λ p. stand-named_by (is_fresh (entries (map_at x s.nodes)) (entries (map_at (x - 1) s.nodes))) w (stale_nodes_at x s.nodes) (stale_nodes_at x cut_nodes) stale step.stale p ∙ ap (λ b. cond b 1 0) (sym (ap₂ (λ a b. is_fresh (entries b) (entries a) p) before here));
+        stood = All-each_element _ (stale_nodes_at x cut_nodes) (λ n has.
+            let k = map-which (named_by w) (stale_nodes_at x s.nodes) n (subst (λ ns. Contains ns n) stale has) in
+            let alive = All-of _ (stale_nodes_at x s.nodes) k.0 step.stood k.1 in
             subst (λ z. is_alive (x - 1) z ≡ true) k.2 (still_alive k.0 (x - 1) (omega arith) alive));
       }
     where
@@ -113,7 +113,7 @@ module _ (fmt : Format) (s : Standing) (sound : IsSound fmt s) (w : ℕ) (from :
         floor_low = from;
         head_last = last;
         root_each = omega (arith, length-drop (s.head - w) s.roots);
-        floor_nodes = λ p. stand-named_by (λ p. is_node 0 p (entries (map_at s.floor s.nodes))) w (alive_at s.floor s.nodes) (alive_at s.floor cut_nodes) (alive-nodes_by w s.nodes last s.floor from) sound.floor_nodes p ∙ ap (λ m. cond (is_node 0 p (entries m)) 1 0) (sym (map-nodes_by w s.nodes last s.floor from));
+        floor_nodes = λ p. stand-named_by (λ p. is_node 0 p (entries (map_at s.floor s.nodes))) w (alive_nodes_at s.floor s.nodes) (alive_nodes_at s.floor cut_nodes) (alive-nodes_by w s.nodes last s.floor from) sound.floor_nodes p ∙ ap (λ m. cond (is_node 0 p (entries m)) 1 0) (sym (map-nodes_by w s.nodes last s.floor from));
         floor_root = version-nodes_by w s.nodes last s.floor from [] ∙ sound.floor_root;
         versions = λ x low high. same_version x high _ _ (ap (λ i. slice_index_or s.roots i []) (let e : s.head - x ≡ s.head - w + (w - x) = omega arith in e) ∙ sym (slice-drop s.roots (s.head - w) (w - x))) (sound.versions x low (omega arith));
         steps = λ x late high. same_step x late high (sound.steps x late (omega arith));

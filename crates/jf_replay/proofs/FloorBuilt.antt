@@ -36,7 +36,7 @@ use Rattle.jf_standing.proofs.Checkpoints.{apart_names}
 use Rattle.jf_node.specs.SnapshotValue.{SnapshotValue}
 use Rattle.jf_node.specs.Snapshots.{IsSnapshot, snapshot_version_at}
 use Rattle.jf_diff.specs.Landings.{version_in, version_or}
-use Rattle.jf_dir.specs.Directories.{begun_with}
+use Rattle.jf_dir.specs.Directories.{snapshot_standing}
 use Rattle.jf_replay.specs.Cuts.{standing_by, nodes_by, named_by, is_written_by}
 use Rattle.jf_replay.specs.Floors.{listed_in, same_listed}
 use Rattle.jf_replay.proofs.CutSound.{sound-by, map-nodes_by, version-nodes_by}
@@ -117,10 +117,10 @@ module _ (base : ℕ) (earlier : List (List ℕ)) (x : SnapshotValue) (snapshot 
   moved : IsPermutation plain.nodes (nodes_by_name plain.nodes)
   moved = nodes-moved format.Two plain plain_sound
 
-  pub begun-map : map_at x.version (begun_with base earlier x).nodes ≡ x.map
+  pub begun-map : map_at x.version (snapshot_standing base earlier x).nodes ≡ x.map
   begun-map = map-moved format.Two plain (nodes_by_name plain.nodes) plain_sound moved x.version (omega arith) (omega arith) ∙ map-floor format.Two base x.version roots x.map (version_in x) snapshot.map low_versions last
 
-  pub begun-versions : (p : Path) → is_node 0 p (entries x.map) ≡ true → version_at x.version (begun_with base earlier x).nodes p ≡ version_in x p
+  pub begun-versions : (p : Path) → is_node 0 p (entries x.map) ≡ true → version_at x.version (snapshot_standing base earlier x).nodes p ≡ version_in x p
   begun-versions p node = version-moved format.Two plain (nodes_by_name plain.nodes) plain_sound moved x.version (omega arith) (omega arith) p ∙ version-floor format.Two base x.version roots x.map (version_in x) snapshot.map low_versions last p node
 
 -- ---- comparison

@@ -14,7 +14,7 @@ use Rattle.jf_codec.specs.declared.format.Format.{Format}
 use Rattle.jf_codec.specs.declared.format.Format.TheVariants as format
 use Rattle.jf_node.specs.SnapshotValue.{SnapshotValue}
 use Rattle.jf_node.specs.Snapshots.{IsSnapshot}
-use Rattle.jf_standing.specs.Named.{Named, not_stale, alive_at, map_at, version_at}
+use Rattle.jf_standing.specs.Named.{Named, not_stale, alive_nodes_at, map_at, version_at}
 use Rattle.jf_standing.specs.Standing.{Standing}
 use Rattle.jf_standing.specs.Sound.{IsSound}
 use Rattle.jf_standing.specs.FormatLaws.{standing_in}
@@ -22,7 +22,7 @@ use Rattle.jf_standing.specs.Next.{IsReadStanding}
 use Rattle.jf_standing.proofs.Lists.{All-each_element}
 use Rattle.jf_update.specs.Restored.{IsRestored}
 use Rattle.jf_diff.specs.Landings.{version_in}
-use Rattle.jf_dir.specs.Directories.{begun_with}
+use Rattle.jf_dir.specs.Directories.{snapshot_standing}
 use Rattle.jf_replay.specs.Cuts.{has_numbers, is_written_by, named_by, standing_by, standing_listed}
 use Rattle.jf_replay.specs.Floors.{AreFloorVersions, entries_in, versions_by_path, listed_in, same_listed}
 use Rattle.jf_replay.proofs.FloorBuilt.{floor-nodes, begun-map, begun-versions, same_listed-exact, same_listed-refl}
@@ -49,7 +49,7 @@ module _ (fmt : Format) (base floor head : ℕ) (roots : List (List ℕ)) (ns ow
   all : AllByRecursion (IsNumbered floor head) ns
   all = all-numbered floor head ns numbered
 
-  alive_is : own ≡ alive_at floor ns
+  alive_is : own ≡ alive_nodes_at floor ns
   alive_is = own_is ∙ alive-floor floor head ns all
 
   pub refused-versions : (AreFloorVersions floor own → ⊥) → IsSound fmt s → ⊥
@@ -65,7 +65,7 @@ module _ (fmt : Format) (base floor head : ℕ) (roots : List (List ℕ)) (ns ow
         ∙ sym (sound.versions floor (omega arith) sound.floor_low).rooted
         ∙ root-listed roots base head floor read.root_each read.base_low read.floor_low)
 
-    module _ (snapshot : IsSnapshot x) (room : len x.map ≤ 2 ^ 63) (d : Standing) (d_read : IsReadStanding d) (d_sound : IsSound format.Two d) (is : d ≡ begun_with base (take (floor - base) roots) x) where
+    module _ (snapshot : IsSnapshot x) (room : len x.map ≤ 2 ^ 63) (d : Standing) (d_read : IsReadStanding d) (d_sound : IsSound format.Two d) (is : d ≡ snapshot_standing base (take (floor - base) roots) x) where
       long : base + length (take (floor - base) roots) ≡ x.version
       long = let low = read.base_low in let high = read.floor_low in let each = read.root_each in let v = restored.version in omega (arith, taken roots (floor - base) (omega (arith, length-reverse roots)))
         where
@@ -87,11 +87,11 @@ module _ (fmt : Format) (base floor head : ℕ) (roots : List (List ℕ)) (ns ow
       pub refused-nodes : pointwise same_listed own (map (listed_in fmt) d.nodes) ≡ false → IsSound fmt s → ⊥
       refused-nodes other sound =
           let m = restored-map fmt s read sound own alive_is x restored in
-          let maps : map_at floor d.nodes ≡ x.map = ap (λ (t : Standing). map_at floor t.nodes) is ∙ subst (λ v. map_at v (begun_with base (take (floor - base) roots) x).nodes ≡ x.map) restored.version (begun-map base (take (floor - base) roots) x snapshot long last room) in
+          let maps : map_at floor d.nodes ≡ x.map = ap (λ (t : Standing). map_at floor t.nodes) is ∙ subst (λ v. map_at v (snapshot_standing base (take (floor - base) roots) x).nodes ≡ x.map) restored.version (begun-map base (take (floor - base) roots) x snapshot long last room) in
           let same = floor-nodes fmt s read sound d d_read d_sound floor_is head_is (maps ∙ m) (λ p node.
           let here = ap (λ k. is_node 0 p (entries k)) m ∙ node in
           ap (λ (t : Standing). version_at floor t.nodes p) is
-          ∙ subst (λ v. version_at v (begun_with base (take (floor - base) roots) x).nodes p ≡ version_in x p) restored.version (begun-versions base (take (floor - base) roots) x snapshot long last room p here)
+          ∙ subst (λ v. version_at v (snapshot_standing base (take (floor - base) roots) x).nodes p ≡ version_in x p) restored.version (begun-versions base (take (floor - base) roots) x snapshot long last room p here)
           ∙ restored-versions fmt s read sound own alive_is x restored p node) in
           true≢false (sym (ap (pointwise same_listed own) (same ∙ ap (map (named_by floor)) (sym own_is)) ∙ same_listed-refl floor own) ∙ other)
 

@@ -22,7 +22,7 @@ use Rattle.jf_walk.proofs.FreshOrder.{sorted-nodes_below}
 use Rattle.jf_walk.proofs.NodeLists.{nodes_below-suc}
 use Rattle.jf_walk.proofs.NodePaths.{IsPath-is_node}
 use Rattle.jf_walk.proofs.NodesListed.{nodes-exact}
-use Rattle.jf_standing.specs.Named.{Named, is_alive, is_at, alive_at, map_at, version_at, leaf_entries}
+use Rattle.jf_standing.specs.Named.{Named, is_alive, is_at, alive_nodes_at, map_at, version_at, leaf_entries}
 use Rattle.jf_standing.specs.Standing.{Standing}
 use Rattle.jf_standing.specs.Sound.{IsSound}
 use Rattle.jf_standing.specs.Next.{IsReadStanding}
@@ -45,14 +45,14 @@ use Rattle.jf_replay.proofs.KeyOrder.{entries-in_key_order, sorted-in_key_order,
 use Rattle.jf_replay.proofs.Numbered.{IsNumbered}
 
 -- the nodes written by the floor are those alive there, if none is stale by then
-pub alive-floor : (floor head : ℕ) (ns : List Named) → AllByRecursion (IsNumbered floor head) ns → filter (is_written_by floor) ns ≡ alive_at floor ns
+pub alive-floor : (floor head : ℕ) (ns : List Named) → AllByRecursion (IsNumbered floor head) ns → filter (is_written_by floor) ns ≡ alive_nodes_at floor ns
 alive-floor floor head ns numbered = filter-same (is_written_by floor) (is_alive floor) ns (All-each_element _ ns (λ n has. sym (ap (λ b. is_written_by floor n && b) (lt_so floor n.2 (All-of _ ns n numbered has).kept) ∙ and_true (is_written_by floor n))))
 
-module _ (floor head : ℕ) (ns own : List Named) (is : own ≡ alive_at floor ns) where
+module _ (floor head : ℕ) (ns own : List Named) (is : own ≡ alive_nodes_at floor ns) where
   -- the entries read off the leaves are those of the map at the floor
   pub entries-floor : entries_in own ≡ entries (map_at floor ns)
   unfolding map_at
-  entries-floor = ap entries_in is ∙ sym (entries-in_key_order (leaf_entries (alive_at floor ns)))
+  entries-floor = ap entries_in is ∙ sym (entries-in_key_order (leaf_entries (alive_nodes_at floor ns)))
 
   pub map-read : map_of_entries (entries_in own) ≡ map_at floor ns
   map-read = map-from_entries (map_of_entries (entries_in own)) (map_at floor ns) (fin.entries-from_sorted key_cmp (entries_in own) (sorted-in_key_order (leaf_entries own)) ∙ entries-floor)
@@ -86,7 +86,7 @@ module _ (fmt : Format) (s : Standing) (read : IsReadStanding s) (sound : IsSoun
   m = map_at s.floor s.nodes
 
   abbrev alive : List Named
-  alive = alive_at s.floor s.nodes
+  alive = alive_nodes_at s.floor s.nodes
 
   abbrev version : Path → ℕ
   version p = version_at s.floor s.nodes p

@@ -12,7 +12,7 @@ use Rattle.jf_path.specs.Names.{name_cmp, are_rising}
 use Rattle.jf_path.specs.Nodes.{ChildrenRiseFrom}
 use Rattle.jf_path.proofs.BoolLaws.{left_so, right_so, both_so}
 use Rattle.jf_path.proofs.NumberLaws.{same_number}
-use Rattle.jf_standing.specs.Named.{Named, is_stale, stale_at}
+use Rattle.jf_standing.specs.Named.{Named, is_stale, stale_nodes_at}
 use Rattle.jf_standing.specs.Building.{apart}
 use Rattle.jf_standing.proofs.Names.{are_rising-sorted}
 use Rattle.jf_standing.proofs.Rising.{sorted-are_rising}
@@ -63,18 +63,18 @@ rising-next ns i d n within at rises = subst (λ xs. IsTrue (are_rising xs)) (ap
 
 -- ---- names of stale nodes
 -- one node more: its name comes last beside the version since which it is stale, and nothing else changes
-pub stale-next : (w : ℕ) (ns : List Named) (i : ℕ) (d n : Named) → i < length ns → n ≡ get_or ns i d → map (λ (n : Named). n.0) (stale_at w (take (i + 1) ns)) ≡ cond (n.2 == w) (map (λ n. n.0) (stale_at w (take i ns)) ++ n.0 ∷ []) (map (λ n. n.0) (stale_at w (take i ns)))
+pub stale-next : (w : ℕ) (ns : List Named) (i : ℕ) (d n : Named) → i < length ns → n ≡ get_or ns i d → map (λ (n : Named). n.0) (stale_nodes_at w (take (i + 1) ns)) ≡ cond (n.2 == w) (map (λ n. n.0) (stale_nodes_at w (take i ns)) ++ n.0 ∷ []) (map (λ n. n.0) (stale_nodes_at w (take i ns)))
 stale-next w ns i d n within at =
-    ap (λ xs. map (λ (n : Named). n.0) (stale_at w xs)) (take-next ns i d n within at)
+    ap (λ xs. map (λ (n : Named). n.0) (stale_nodes_at w xs)) (take-next ns i d n within at)
     ∙ ap (map (λ (n : Named). n.0)) (filter-append (is_stale w) (take i ns) (n ∷ []))
-    ∙ map-append (λ (n : Named). n.0) (stale_at w (take i ns)) (stale_at w (n ∷ []))
+    ∙ map-append (λ (n : Named). n.0) (stale_nodes_at w (take i ns)) (stale_nodes_at w (n ∷ []))
     ∙ last (n.2 == w)
   where
-    last : (b : Bool) → map (λ (n : Named). n.0) (stale_at w (take i ns)) ++ map (λ (n : Named). n.0) (cond b (n ∷ []) []) ≡ cond b (map (λ n. n.0) (stale_at w (take i ns)) ++ n.0 ∷ []) (map (λ n. n.0) (stale_at w (take i ns)))
+    last : (b : Bool) → map (λ (n : Named). n.0) (stale_nodes_at w (take i ns)) ++ map (λ (n : Named). n.0) (cond b (n ∷ []) []) ≡ cond b (map (λ n. n.0) (stale_nodes_at w (take i ns)) ++ n.0 ∷ []) (map (λ n. n.0) (stale_nodes_at w (take i ns)))
     last true = refl
-    last false = append-nil (map (λ (n : Named). n.0) (stale_at w (take i ns)))
+    last false = append-nil (map (λ (n : Named). n.0) (stale_nodes_at w (take i ns)))
 
-pub stale-rising : (ns : List Named) (i : ℕ) (d n : Named) → i < length ns → n ≡ get_or ns i d → IsTrue (are_rising (map (λ n. n.0) ns)) → IsTrue (are_rising (map (λ n. n.0) (stale_at n.2 (take i ns)) ++ n.0 ∷ []))
+pub stale-rising : (ns : List Named) (i : ℕ) (d n : Named) → i < length ns → n ≡ get_or ns i d → IsTrue (are_rising (map (λ n. n.0) ns)) → IsTrue (are_rising (map (λ n. n.0) (stale_nodes_at n.2 (take i ns)) ++ n.0 ∷ []))
 stale-rising ns i d n within at rises =
-    subst (λ xs. IsTrue (are_rising xs)) (stale-next n.2 ns i d n within at ∙ ap (λ b. cond b (map (λ n. n.0) (stale_at n.2 (take i ns)) ++ n.0 ∷ []) (map (λ n. n.0) (stale_at n.2 (take i ns)))) (same_number n.2 n.2 refl))
+    subst (λ xs. IsTrue (are_rising xs)) (stale-next n.2 ns i d n within at ∙ ap (λ b. cond b (map (λ n. n.0) (stale_nodes_at n.2 (take i ns)) ++ n.0 ∷ []) (map (λ n. n.0) (stale_nodes_at n.2 (take i ns)))) (same_number n.2 n.2 refl))
     (rising-filter (is_stale n.2) (take (i + 1) ns) (rising-take (i + 1) ns rises))

@@ -14,7 +14,7 @@ use Rattle.jf_codec.specs.Spelling.{IsNode}
 use Rattle.jf_codec.specs.declared.format.Format.{Format}
 use Rattle.jf_payload.specs.Spelling.{IsCommit}
 use Rattle.jf_payload.specs.declared.records.Commit.{Commit}
-use Rattle.jf_standing.specs.Named.{Named, not_stale, is_written, is_stale, written_at, stale_at}
+use Rattle.jf_standing.specs.Named.{Named, not_stale, is_written, is_stale, written_nodes_at, stale_nodes_at}
 use Rattle.jf_standing.specs.Standing.{Standing, with_commit}
 use Rattle.jf_standing.specs.Next.{IsReadStanding}
 use Rattle.jf_standing.specs.Sound.{IsSound}
@@ -39,16 +39,16 @@ pub listed-spelled : (fmt : Format) (w : ℕ) (root : List ℕ) (ns : List Named
 listed-spelled fmt w root ns small key few spelled rises = record {
   version = small;
   root = key;
-  fresh = All-each_element _ (map without_since (written_at w ns)) (λ x has.
-      let n = map-which without_since (written_at w ns) x has in
+  fresh = All-each_element _ (map without_since (written_nodes_at w ns)) (λ x has.
+      let n = map-which without_since (written_nodes_at w ns) x has in
       let is = All-of (IsSpelled fmt) ns n.0 spelled (filter-Contains (is_written w) ns n.0 n.1) in
       subst (λ (y : NodeName × PlainNode). IsName y.0 × IsNode fmt y.1) n.2 (is.0, is.1));
-  fresh_count = omega (arith, length-map (written_at w ns) without_since, length-filter_le (is_written w) ns);
-  fresh_rise = subst (λ xs. IsTrue (are_rising xs)) (sym (same_names (written_at w ns))) (rising-filter (is_written w) ns rises);
-  stale = All-each_element _ (map (λ (n : Named). n.0) (stale_at w ns)) (λ name has.
-      let n = map-which (λ (n : Named). n.0) (stale_at w ns) name has in
+  fresh_count = omega (arith, length-map (written_nodes_at w ns) without_since, length-filter_le (is_written w) ns);
+  fresh_rise = subst (λ xs. IsTrue (are_rising xs)) (sym (same_names (written_nodes_at w ns))) (rising-filter (is_written w) ns rises);
+  stale = All-each_element _ (map (λ (n : Named). n.0) (stale_nodes_at w ns)) (λ name has.
+      let n = map-which (λ (n : Named). n.0) (stale_nodes_at w ns) name has in
       subst IsName n.2 (All-of (IsSpelled fmt) ns n.0 spelled (filter-Contains (is_stale w) ns n.0 n.1)).0);
-  stale_count = omega (arith, length-map (stale_at w ns) (λ n. n.0), length-filter_le (is_stale w) ns);
+  stale_count = omega (arith, length-map (stale_nodes_at w ns) (λ n. n.0), length-filter_le (is_stale w) ns);
   stale_rise = rising-filter (is_stale w) ns rises;
 }
 
@@ -79,17 +79,17 @@ root-listed roots base head w each low high =
 
 -- what is read off the lists is the landing that made the version
 pub is-making : (base floor head : ℕ) (roots : List (List ℕ)) (ns : List Named) (w : ℕ) (c : Commit) (r : List ℕ) (names : List NodeName)
-    → c ≡ record { version = w; root = r; fresh = map without_since (written_at w ns); stale = names } → r ≡ slice_index_or roots (w - base) [] → names ≡ map (λ n. n.0) (stale_at w ns)
+    → c ≡ record { version = w; root = r; fresh = map without_since (written_nodes_at w ns); stale = names } → r ≡ slice_index_or roots (w - base) [] → names ≡ map (λ n. n.0) (stale_nodes_at w ns)
     → length (reverse roots) ≡ head - base + 1 → base ≤ w → w ≤ head → c ≡ landing_making w (standing_listed base floor head roots ns)
 is-making base floor head roots ns w c r names is root stale each low high =
-    is ∙ ap₂ (λ x y. record { version = w; root = x; fresh = map without_since (written_at w ns); stale = y }) (root ∙ sym (root-listed roots base head w each low high)) stale
+    is ∙ ap₂ (λ x y. record { version = w; root = x; fresh = map without_since (written_nodes_at w ns); stale = y }) (root ∙ sym (root-listed roots base head w each low high)) stale
 
 -- ---- the loop over the versions above the floor
 module _ (base floor head : ℕ) (roots : List (List ℕ)) (ns : List Named) (read : IsReadStanding (standing_listed base floor head roots ns)) (step : ℕ) (below : step < head - floor) where
   -- each step reads the landing of its version off the lists
   pub step-making : (c : Commit) (names : List NodeName) (es : List (ℕ × List NodeName))
-      → c ≡ record { version = floor + 1 + step; root = slice_index_or roots (floor + 1 + step - base) []; fresh = map without_since (written_at (floor + 1 + step) ns); stale = names } → names ≡ names_beside (floor + 1 + step) es
-      → ((w : ℕ) → floor + step < w → w < not_stale → names_beside w es ≡ map (λ n. n.0) (stale_at w ns)) → c ≡ landing_making (floor + 1 + step) (standing_listed base floor head roots ns)
+      → c ≡ record { version = floor + 1 + step; root = slice_index_or roots (floor + 1 + step - base) []; fresh = map without_since (written_nodes_at (floor + 1 + step) ns); stale = names } → names ≡ names_beside (floor + 1 + step) es
+      → ((w : ℕ) → floor + step < w → w < not_stale → names_beside w es ≡ map (λ n. n.0) (stale_nodes_at w ns)) → c ≡ landing_making (floor + 1 + step) (standing_listed base floor head roots ns)
   step-making c names es is taken beside =
       let low = read.base_low in
       let last = read.head_last in
@@ -110,8 +110,8 @@ module _ (base floor head : ℕ) (roots : List (List ℕ)) (ns : List Named) (re
 
 -- the names that are taken are gone, and no others
 pub names-later : (ns : List Named) (floor step : ℕ) (es fs : List (ℕ × List NodeName))
-    → ((w : ℕ) → names_beside w fs ≡ (if w == floor + 1 + step then [] else names_beside w es)) → ((w : ℕ) → floor + step < w → w < not_stale → names_beside w es ≡ map (λ n. n.0) (stale_at w ns))
-    → (w : ℕ) → floor + (step + 1) < w → w < not_stale → names_beside w fs ≡ map (λ (n : Named). n.0) (stale_at w ns)
+    → ((w : ℕ) → names_beside w fs ≡ (if w == floor + 1 + step then [] else names_beside w es)) → ((w : ℕ) → floor + step < w → w < not_stale → names_beside w es ≡ map (λ n. n.0) (stale_nodes_at w ns))
+    → (w : ℕ) → floor + (step + 1) < w → w < not_stale → names_beside w fs ≡ map (λ (n : Named). n.0) (stale_nodes_at w ns)
 names-later ns floor step es fs taken beside w late last =
     taken w ∙ ap (λ b. cond b [] (names_beside w es)) (other_number w (floor + 1 + step) (λ is. omega arith)) ∙ beside w (omega arith) last
 

@@ -15,7 +15,7 @@ use Rattle.jf_hash.proofs.MapLaws.{value_after, same_map, get-apply-sorted}
 use Rattle.jf_model.specs.Nodes.{under, is_node, plain_node}
 use Rattle.jf_codec.specs.declared.format.Format.{Format}
 use Rattle.jf_payload.specs.declared.records.Commit.{Commit}
-use Rattle.jf_standing.specs.Named.{Named, alive_at, is_alive, is_at, leaf_entry, version_at}
+use Rattle.jf_standing.specs.Named.{Named, alive_nodes_at, is_alive, is_at, leaf_entry, version_at}
 use Rattle.jf_standing.specs.Standing.{Standing, with_commit, is_named}
 use Rattle.jf_standing.specs.Sound.{IsSound, is_counted}
 use Rattle.jf_standing.specs.Taking.{Continues}
@@ -60,7 +60,7 @@ leaves_at-which m (x ∷ names) e has = elim (Contains-append_cases (sole (under
 -- ---- a sound landing
 module _ (fmt : Format) (s : Standing) (c : Commit) (sound : IsSound fmt s) (goes : Continues s c) (after : IsSound fmt (with_commit c s)) where
   -- a node that stands and is named by the landing is alive at the head
-  named_alive : (n : Named) → Contains s.nodes n → Contains c.stale n.0 → Contains (alive_at s.head s.nodes) n
+  named_alive : (n : Named) → Contains s.nodes n → Contains c.stale n.0 → Contains (alive_nodes_at s.head s.nodes) n
   named_alive n stood named = Contains-filter (is_alive s.head) s.nodes n stood (named_was fmt s c sound goes after n stood (named-so n.0 c.stale named)).0
 
   -- a name that the landing marks stale is that of a node that stands
@@ -68,8 +68,8 @@ module _ (fmt : Format) (s : Standing) (c : Commit) (sound : IsSound fmt s) (goe
   stood name has = map-which (λ (n : Named). n.0) s.nodes name (named-tells name (map (λ (n : Named). n.0) s.nodes) (All-of _ c.stale name goes.stale_known has))
 
   -- a node alive at the head is the node of the head's map at its path
-  node_of_head : (n : Named) → Contains (alive_at s.head s.nodes) n → n.1 ≡ plain_node (is_counted fmt) (λ i. version_at s.head s.nodes (n.0.path ++ i ∷ [])) (length n.0.path) (under 0 n.0.path (entries (head_map s)))
-  node_of_head n alive = All-of _ (alive_at s.head s.nodes) n (sound.versions s.head sound.floor_low (omega arith)).nodes alive
+  node_of_head : (n : Named) → Contains (alive_nodes_at s.head s.nodes) n → n.1 ≡ plain_node (is_counted fmt) (λ i. version_at s.head s.nodes (n.0.path ++ i ∷ [])) (length n.0.path) (under 0 n.0.path (entries (head_map s)))
+  node_of_head n alive = All-of _ (alive_nodes_at s.head s.nodes) n (sound.versions s.head sound.floor_low (omega arith)).nodes alive
 
   stale_listed : (e : List ℕ × List ℕ) → Contains (stale_leaves s c) e → Contains (leaves_at (head_map s) c.stale) e
   stale_listed e has =
@@ -122,6 +122,6 @@ module _ (fmt : Format) (s : Standing) (c : Commit) (sound : IsSound fmt s) (goe
       let n = stood name has in
       let alive = named_alive n.0 n.1 (subst (λ k. Contains c.stale k) (sym n.2) has) in
       let at : n.0.0.path ≡ name.path = ap (λ k. k.path) n.2 in (
-        test_so _ _ (stands fmt s sound s.head sound.floor_low (omega arith) name.path) (count-some (is_at name.path) (alive_at s.head s.nodes) n.0 alive (at-so name.path n.0 at)),
+        test_so _ _ (stands fmt s sound s.head sound.floor_low (omega arith) name.path) (count-some (is_at name.path) (alive_nodes_at s.head s.nodes) n.0 alive (at-so name.path n.0 at)),
         version-of s.head s.nodes name.path n.0 (few-alive fmt s sound s.head sound.floor_low (omega arith) name.path) alive at ∙ ap (λ k. k.version) n.2,
       )

@@ -5,7 +5,7 @@ use Rattle.std.specs.List.Sorted.{IsNonDecreasingBy, IsPartitionPoint, IsPartiti
 use Rattle.std.proofs.lemmas.List.Sorted.{IsPartitionedBy-leb}
 use Rattle.jf_path.specs.Names.{are_rising}
 use Rattle.jf_path.proofs.ListLaws.{All-by_place}
-use Rattle.jf_standing.specs.Named.{Named, written_at}
+use Rattle.jf_standing.specs.Named.{Named, written_nodes_at}
 use Rattle.jf_replay.specs.Cuts.{is_written_by}
 use Rattle.jf_replay.proofs.CutLands.{rising-versions, later_rise, split-written}
 
@@ -46,11 +46,11 @@ take_of_drop (suc i) (suc j) [] le = take-nothing (suc j - suc i)
 take_of_drop (suc i) (suc j) (x ∷ xs) le = ap (λ k. take k (drop i xs)) (let e : suc j - suc i ≡ j - i = omega arith in e) ∙ take_of_drop i j xs (omega arith)
 
 module _ (w : ℕ) (ns : List Named) (some : 1 ≤ w) (rises : IsTrue (are_rising (map (λ n. n.0) ns))) (i j : ℕ) (before : take i ns ≡ filter (is_written_by (w - 1)) ns) (upto : take j ns ≡ filter (is_written_by w) ns) (i_within : i ≤ length ns) (j_within : j ≤ length ns) where
-  both : take j ns ≡ take i ns ++ written_at w ns
-  both = upto ∙ split-written w ns some rises ∙ ap (λ t. t ++ written_at w ns) (sym before)
+  both : take j ns ≡ take i ns ++ written_nodes_at w ns
+  both = upto ∙ split-written w ns some rises ∙ ap (λ t. t ++ written_nodes_at w ns) (sym before)
 
   pub ends-rise : i ≤ j
-  ends-rise = omega (arith, ap length both, length-append (take i ns) (written_at w ns), length-take_within ns i i_within, length-take_within ns j j_within)
+  ends-rise = omega (arith, ap length both, length-append (take i ns) (written_nodes_at w ns), length-take_within ns i i_within, length-take_within ns j j_within)
 
-  pub run-written : take (j - i) (drop i ns) ≡ written_at w ns
-  run-written = take_of_drop i j ns ends-rise ∙ ap (drop i) both ∙ drop_at (take i ns) (written_at w ns) i (length-take_within ns i i_within)
+  pub run-written : take (j - i) (drop i ns) ≡ written_nodes_at w ns
+  run-written = take_of_drop i j ns ends-rise ∙ ap (drop i) both ∙ drop_at (take i ns) (written_nodes_at w ns) i (length-take_within ns i i_within)

@@ -6,7 +6,7 @@ use Rattle.std.specs.Ordering.{nat_cmp}
 use Rattle.jf_path.specs.declared.name.NodeName.{NodeName}
 use Rattle.jf_path.specs.declared.node.PlainNode.{PlainNode}
 use Rattle.jf_payload.specs.declared.records.Commit.{Commit}
-use Rattle.jf_standing.specs.Named.{Named, not_stale, written_at, stale_at}
+use Rattle.jf_standing.specs.Named.{Named, not_stale, written_nodes_at, stale_nodes_at}
 use Rattle.jf_standing.specs.Standing.{Standing}
 use Rattle.jf_replay.specs.declared.lent.CheckpointRef.{CheckpointRef}
 
@@ -32,7 +32,7 @@ without_since n = (n.0, n.1)
 
 -- the landing of a version, by its root and all nodes
 abbrev pub landing_listed : ℕ → List ℕ → List Named → Commit
-landing_listed w root ns = record { version = w; root = root; fresh = map without_since (written_at w ns); stale = map (λ n. n.0) (stale_at w ns) }
+landing_listed w root ns = record { version = w; root = root; fresh = map without_since (written_nodes_at w ns); stale = map (λ n. n.0) (stale_nodes_at w ns) }
 
 -- the landing that made the version w of a standing
 abbrev pub landing_making : ℕ → Standing → Commit

@@ -1,7 +1,7 @@
 // The first record: a checkpoint, whose kind is that of the file's format.
 ghost use Rattle.std.specs.Prelude.{◌≡◌, ℕ, List, true, Err, IfOk};
 ghost use Rattle.jf_codec.specs.declared.format.Format.{Format};
-ghost use Rattle.jf_frame.specs.Framed.{lent_as};
+ghost use Rattle.jf_frame.specs.Framed.{framed_value};
 ghost use Rattle.jf_frame.specs.Framing.{number_of};
 ghost use Rattle.jf_pair.specs.Files.{is_checkpoint};
 ghost use Rattle.jf_payload.specs.Spelling.{checkpoint_kind, IsRecord, IsSpelling};
@@ -44,9 +44,9 @@ pub(crate) fn begin_with<H: Threads + Sync>(
 ) -> Result<Replayed, ReplayFault>
     requires checkpoint { is_checkpoint framed.kind ≡ true }
     ensures kind { IfOk result (λ r. framed.entry.kind ≡ checkpoint_kind r.format) }
-    ensures begun { IfOk result (λ r. ItemBegins r.format (item r.format (lent_as framed.entry)) (standing_in r.format r.directory)) }
+    ensures begun { IfOk result (λ r. ItemBegins r.format (item r.format (framed_value framed.entry)) (standing_in r.format r.directory)) }
     ensures generation { IfOk result (λ r. r.generation ≡ number_of framed.entry.payload.now) }
-    ensures unsound { (at : ℕ) → result ≡ Err (ReplayFault.Unsound at) → (at ≡ framed.entry.offset) × ((fmt : Format) × (framed.entry.kind ≡ checkpoint_kind fmt) × ((s : Standing) → ItemBegins fmt (item fmt (lent_as framed.entry)) s → ⊥)) }
+    ensures unsound { (at : ℕ) → result ≡ Err (ReplayFault.Unsound at) → (at ≡ framed.entry.offset) × ((fmt : Format) × (framed.entry.kind ≡ checkpoint_kind fmt) × ((s : Standing) → ItemBegins fmt (item fmt (framed_value framed.entry)) s → ⊥)) }
 {
     spelled_is_spelling();
     spelled_is_read();

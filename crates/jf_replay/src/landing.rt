@@ -1,7 +1,7 @@
 // The landings of the versions above the floor, as a checkpoint lists their nodes.
 ghost use Rattle.std.specs.Prelude.{◌≡◌, ◌-◌, ◌≤◌, drop, filter, length, map, take, IsTrue, IfOk};
 ghost use Rattle.jf_path.specs.Names.{are_rising};
-ghost use Rattle.jf_standing.specs.Named.{written_at};
+ghost use Rattle.jf_standing.specs.Named.{written_nodes_at};
 ghost use Rattle.jf_replay.specs.Cuts.{is_written_by, without_since};
 
 use crate::copies::copy_of_node;
@@ -25,7 +25,7 @@ fn places_of(nodes: &[(NodeName, PlainNode, u64)], version: u64) -> (usize, usiz
     requires positive { 1 ≤ version }
     ensures order { result.0 ≤ result.1 }
     ensures within { result.1 ≤ length nodes.now }
-    ensures written { take (result.1 - result.0) (drop result.0 nodes.now) ≡ written_at version nodes.now }
+    ensures written { take (result.1 - result.0) (drop result.0 nodes.now) ≡ written_nodes_at version nodes.now }
 {
     let start = count_by_version(nodes, version - 1);
     let end = count_by_version(nodes, version);
@@ -33,10 +33,13 @@ fn places_of(nodes: &[(NodeName, PlainNode, u64)], version: u64) -> (usize, usiz
 }
 
 /// The nodes that were written at a version.
-fn written_in(nodes: &[(NodeName, PlainNode, u64)], version: u64) -> &[(NodeName, PlainNode, u64)]
+fn nodes_of_version(
+    nodes: &[(NodeName, PlainNode, u64)],
+    version: u64,
+) -> &[(NodeName, PlainNode, u64)]
     requires sorted { IsTrue (are_rising (map (λ n. n.0) nodes.now)) }
     requires positive { 1 ≤ version }
-    ensures { result.now ≡ written_at version nodes.now }
+    ensures { result.now ≡ written_nodes_at version nodes.now }
 {
     let (start, end) = places_of(nodes, version);
     &nodes[start..end]
@@ -65,9 +68,9 @@ pub(crate) fn landing_in(
 ) -> Result<Commit, Memory>
     requires sorted { IsTrue (are_rising (map (λ n. n.0) nodes.now)) }
     requires positive { 1 ≤ version }
-    ensures { IfOk result (λ c. c ≡ record { version = version; root = root.now; fresh = map without_since (written_at version nodes.now); stale = stale }) }
+    ensures { IfOk result (λ c. c ≡ record { version = version; root = root.now; fresh = map without_since (written_nodes_at version nodes.now); stale = stale }) }
 {
-    let fresh = fresh_list(alloc, written_in(nodes, version))?;
+    let fresh = fresh_list(alloc, nodes_of_version(nodes, version))?;
     Ok(Commit {
         version,
         root: *root,

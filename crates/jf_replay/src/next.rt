@@ -1,6 +1,6 @@
 // The next record of a journal is decoded and taken, or its offset is returned.
 ghost use Rattle.std.specs.Prelude.{◌≡◌, ℕ, Err, OnOk};
-ghost use Rattle.jf_frame.specs.Framed.{lent_as};
+ghost use Rattle.jf_frame.specs.Framed.{framed_value};
 ghost use Rattle.jf_standing.specs.Standing.{Standing};
 ghost use Rattle.jf_standing.specs.Leading.{ItemFollows};
 ghost use Rattle.jf_standing.specs.FormatLaws.{standing_in};
@@ -26,8 +26,8 @@ pub(crate) fn take_next<H: Threads + Sync>(
     format: Format,
     workers: Workers,
 ) -> Result<(), ReplayFault>
-    ensures taken { OnOk result (ItemFollows format (standing_in format directory.old) (item format (lent_as framed.entry)) (standing_in format directory.new)) }
-    ensures unsound { (at : ℕ) → result ≡ Err (ReplayFault.Unsound at) → (at ≡ framed.entry.offset) × ((s : Standing) → ItemFollows format (standing_in format directory.old) (item format (lent_as framed.entry)) s → ⊥) }
+    ensures taken { OnOk result (ItemFollows format (standing_in format directory.old) (item format (framed_value framed.entry)) (standing_in format directory.new)) }
+    ensures unsound { (at : ℕ) → result ≡ Err (ReplayFault.Unsound at) → (at ≡ framed.entry.offset) × ((s : Standing) → ItemFollows format (standing_in format directory.old) (item format (framed_value framed.entry)) s → ⊥) }
 {
     spelled_is_spelling();
     match decode(alloc, framed.kind, framed.payload, format) {

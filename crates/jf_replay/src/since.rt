@@ -1,7 +1,7 @@
 // The names of stale nodes by the version since which they are stale.
 ghost use Rattle.std.specs.Prelude.{◌≡◌, ℕ, ◌<◌, ◌++◌, ◌∷◌, [], ◌==◌, if◌then◌else◌, map, IsTrue, IfOk, OnOk};
 ghost use Rattle.jf_path.specs.Names.{are_rising};
-ghost use Rattle.jf_standing.specs.Named.{not_stale, stale_at};
+ghost use Rattle.jf_standing.specs.Named.{not_stale, stale_nodes_at};
 ghost use Rattle.jf_replay.specs.Cuts.{names_beside};
 
 use jf_path::{Memory, NameList, NodeName, PlainNode};
@@ -48,7 +48,7 @@ pub(crate) fn names_by_since(
     nodes: &[(NodeName, PlainNode, u64)],
 ) -> Result<BTreeMap<u64, NameList>, Memory>
     requires { IsTrue (are_rising (map (λ n. n.0) nodes.now)) }
-    ensures { IfOk result (λ m. (w : ℕ) → w < not_stale → names_beside w m.entries ≡ map (λ n. n.0) (stale_at w nodes.now)) }
+    ensures { IfOk result (λ m. (w : ℕ) → w < not_stale → names_beside w m.entries ≡ map (λ n. n.0) (stale_nodes_at w nodes.now)) }
 {
     let mut by_since = BTreeMap::new(alloc);
     for node in nodes {

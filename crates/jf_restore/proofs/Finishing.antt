@@ -37,7 +37,7 @@ module _ (version : ℕ) (es : Entries) (old new : Engine) where
     faults = s.faults;
     checkpoint = held;
     succeeds = s.disk;
-    untold = s.untold;
+    unknown = s.unknown;
   }
   import_makes (Err engine_fault.Broken) e held = e
   import_makes (Err (engine_fault.NotEmpty head)) e held = (e.0.0, e.0.1.0, e.0.1.1, e.1)
@@ -55,7 +55,7 @@ module _ (version : ℕ) (es : Entries) (old new : Engine) where
     faults = t.faults;
     cause = t.cause;
     stops = t.disk;
-    untold = t.untold;
+    unknown = t.unknown;
   }
   import_makes (Err engine_fault.Memory) e held = (can_import e.0, e.1)
 

@@ -37,7 +37,7 @@ pub record HasImported (version : ℕ) (es : Entries) (old new : Engine) : Type 
   pub faults : new.faults ≡ old.faults
   pub checkpoint : OnHistories old.history new.history (λ h g. HoldImported (reads g) (old.generation + 1) version es)
   pub succeeds : OnHistories old.history new.history (λ h g. Succeeds (Imports version es) h g old.versions)
-  pub untold : old.history ≡ None → new.history ≡ None
+  pub unknown : old.history ≡ None → new.history ≡ None
 
 -- the disk failed in the import of a version with these entries: the store is broken, and shows what it showed before; a
 -- crash leaves the versions before the import or after it
@@ -51,7 +51,7 @@ pub record HasBrokenOff (version : ℕ) (es : Entries) (old new : Engine) : Type
   pub faults : old.faults ≤ new.faults
   pub cause : HasCause old.faults new.faults
   pub stops : OnHistories old.history new.history (λ h g. StopsWell (Imports version es) h g old.versions)
-  pub untold : old.history ≡ None → new.history ≡ None
+  pub unknown : old.history ≡ None → new.history ≡ None
 
 -- a version with these entries wasn't imported, by why: the first cause that holds, or no cause and the disk failed or memory
 -- ran out. The store is unchanged, unless the disk failed

@@ -29,7 +29,7 @@ pub(crate) fn restore_over<S: Source, K: Sink, D: Disk>(
 ) -> Over<D>
     requires whole { engine.broken ≡ false }
     requires bounded { version ≤ max_version }
-    ensures occupied { (head : ℕ) → result.status ≡ Status.Refused (RestoreFault.NotEmpty head) → (source.new ≡ source.old) × (sink.new ≡ sink.old) }
+    ensures untouched { (head : ℕ) → result.status ≡ Status.Refused (RestoreFault.NotEmpty head) → (source.new ≡ source.old) × (sink.new ≡ sink.old) }
     ensures here { (head : ℕ) (root : List ℕ) → result.status ≢ Status.Elsewhere head root }
     ensures kept { (workers : ℕ) → CompletesCall (mode.Restore version root workers) (state_when_opened engine.versions engine.generation) (shown_devices S.Source K.Sink source.old sink.old (engine_disk engine)) (shown_devices S.Source K.Sink source.new sink.new (disk_of D.Disk result.disk)) result.status result.entries }
 {

@@ -50,7 +50,7 @@ pub(crate) fn trim_over<K: Sink, D: Disk>(alloc: Global, engine: Engine<D>, sink
 /// Writes into a sink what was trimmed. Returns how that ended.
 fn tell_trimmed<K: Sink>(alloc: Global, trimmed: Trimmed, sink: &mut K) -> Status
     ensures written { TellsTrimmed (Ok trimmed) result (K.text sink.old) (K.text sink.new) }
-    ensures silent { result ≡ Status.Memory → sink.new ≡ sink.old }
+    ensures unwritten { result ≡ Status.Memory → sink.new ≡ sink.old }
     ensures cause { result ≡ Status.WriteFault → HasCause (K.faults sink.old) (K.faults sink.new) }
     ensures counts { K.faults sink.old ≤ K.faults sink.new }
 {

@@ -193,7 +193,7 @@ module _ (store : Store) (all : List Served) (entries : List Entry) (engine : En
     kept = closed.kept;
     spared = λ g told. spared_from spares g told 0 [] all refl refl served;
     grows = closed.grows;
-    untold = closed.untold;
+    unknown = closed.unknown;
     alone = λ none. alone_served store lone all entries engine passes closed served fine none;
   }
 

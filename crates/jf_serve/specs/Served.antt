@@ -85,5 +85,5 @@ pub record HasServed (start : Start) (scripts : List (List (List ℕ))) (outputs
   pub kept : IsKept start entries attempt engine
   pub spared : (h : History) → engine.history ≡ Some h → ArePinsSpared start.moment h 0 replies ends
   pub grows : (h : History) → start.history ≡ Some h → (g : History) × (engine.history ≡ Some g) × ExtendsHistory h g
-  pub untold : start.history ≡ None → engine.history ≡ None
+  pub unknown : start.history ≡ None → engine.history ≡ None
   pub alone : start.state.count ≡ 0 → IsAloneIn start.state scripts outputs ends entries attempt

@@ -16,7 +16,7 @@ pub(crate) fn cut_input(alloc: Global, input: &[u8]) -> Result<Scripts, InputFau
     ensures number { IfOk result (λ scripts. (1 ≤ length scripts) × (length scripts ≤ max_sessions)) }
     ensures ok { IfOk result (λ scripts. map lines scripts ≡ scripts_in input.now) }
     ensures full { result ≡ Err InputFault.Full → max_sessions < length (scripts_in input.now) }
-    ensures fault { IfErr result (λ e. e ≢ InputFault.ReadFault) }
+    ensures unstopped { IfErr result (λ e. e ≢ InputFault.ReadFault) }
 {
     let mut scripts = Scripts::new(alloc);
     let mut rest = Some(skip_session_line(input));

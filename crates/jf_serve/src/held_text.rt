@@ -16,7 +16,7 @@ pub(crate) const ENOUGH: u64 = 65_536;
 pub(crate) fn put_held<K: Sink>(held: &mut Bytes, sink: &mut K) -> Result<(), ReportFault>
     ensures ok { OnOk result (Appends (K.text sink.old) (K.text sink.new) held.old) }
     ensures empty { OnOk result (held.new ≡ []) }
-    ensures front { OnErr result (IsCutShort (K.text sink.old) (K.text sink.new) held.old) }
+    ensures cut_short { OnErr result (IsCutShort (K.text sink.old) (K.text sink.new) held.old) }
     ensures cause { result ≡ Err ReportFault.WriteFault → HasCause (K.faults sink.old) (K.faults sink.new) }
     ensures counts { K.faults sink.old ≤ K.faults sink.new }
 {
@@ -28,7 +28,7 @@ pub(crate) fn put_held<K: Sink>(held: &mut Bytes, sink: &mut K) -> Result<(), Re
 /// Puts what is held into the sink if that is enough.
 pub(crate) fn put_enough<K: Sink>(held: &mut Bytes, sink: &mut K) -> Result<(), ReportFault>
     ensures ok { OnOk result (AddsText (K.text sink.old) (K.text sink.new) held.old held.new []) }
-    ensures front { OnErr result (IsCutShort (K.text sink.old) (K.text sink.new) held.old) }
+    ensures cut_short { OnErr result (IsCutShort (K.text sink.old) (K.text sink.new) held.old) }
     ensures cause { result ≡ Err ReportFault.WriteFault → HasCause (K.faults sink.old) (K.faults sink.new) }
     ensures counts { K.faults sink.old ≤ K.faults sink.new }
 {

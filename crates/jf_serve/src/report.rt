@@ -54,7 +54,7 @@ pub fn write_served<K: Sink>(
     // After success the whole report was appended.
     ensures ok { OnOk result (Appends (K.text sink.old) (K.text sink.new) (served_text outputs.now entries.now)) }
     // After a refusal a front of the report was appended.
-    ensures front { OnErr result (IsCutShort (K.text sink.old) (K.text sink.new) (served_text outputs.now entries.now)) }
+    ensures cut_short { OnErr result (IsCutShort (K.text sink.old) (K.text sink.new) (served_text outputs.now entries.now)) }
     // It returns a fault of the sink only if the sink counted one.
     ensures cause { result ≡ Err ReportFault.WriteFault → HasCause (K.faults sink.old) (K.faults sink.new) }
     // The sink's count of faults doesn't fall.
@@ -74,7 +74,7 @@ fn write_sessions<K: Sink>(
     sink: &mut K,
 ) -> Result<(), ReportFault>
     ensures ok { OnOk result (AddsText (K.text sink.old) (K.text sink.new) held.old held.new (concat (map session_text outputs.now))) }
-    ensures front { OnErr result (IsCutShort (K.text sink.old) (K.text sink.new) (held.old ++ concat (map session_text outputs.now))) }
+    ensures cut_short { OnErr result (IsCutShort (K.text sink.old) (K.text sink.new) (held.old ++ concat (map session_text outputs.now))) }
     ensures cause { result ≡ Err ReportFault.WriteFault → HasCause (K.faults sink.old) (K.faults sink.new) }
     ensures counts { K.faults sink.old ≤ K.faults sink.new }
 {
@@ -87,7 +87,7 @@ fn write_sessions<K: Sink>(
 /// Writes the output of a session, after the line that begins it. A long output isn't held.
 fn write_session<K: Sink>(output: &[u8], held: &mut Bytes, sink: &mut K) -> Result<(), ReportFault>
     ensures ok { OnOk result (AddsText (K.text sink.old) (K.text sink.new) held.old held.new (session_text output.now)) }
-    ensures front { OnErr result (IsCutShort (K.text sink.old) (K.text sink.new) (held.old ++ session_text output.now)) }
+    ensures cut_short { OnErr result (IsCutShort (K.text sink.old) (K.text sink.new) (held.old ++ session_text output.now)) }
     ensures cause { result ≡ Err ReportFault.WriteFault → HasCause (K.faults sink.old) (K.faults sink.new) }
     ensures counts { K.faults sink.old ≤ K.faults sink.new }
 {
@@ -109,7 +109,7 @@ fn write_ledger<K: Sink>(
     sink: &mut K,
 ) -> Result<(), ReportFault>
     ensures ok { OnOk result (AddsText (K.text sink.old) (K.text sink.new) held.old held.new (ledger_text entries.now)) }
-    ensures front { OnErr result (IsCutShort (K.text sink.old) (K.text sink.new) (held.old ++ ledger_text entries.now)) }
+    ensures cut_short { OnErr result (IsCutShort (K.text sink.old) (K.text sink.new) (held.old ++ ledger_text entries.now)) }
     ensures cause { result ≡ Err ReportFault.WriteFault → HasCause (K.faults sink.old) (K.faults sink.new) }
     ensures counts { K.faults sink.old ≤ K.faults sink.new }
 {
@@ -123,7 +123,7 @@ fn write_ledger<K: Sink>(
 /// Writes the line of an entry. It may be held.
 fn write_line<K: Sink>(entry: &Entry, held: &mut Bytes, sink: &mut K) -> Result<(), ReportFault>
     ensures ok { OnOk result (AddsText (K.text sink.old) (K.text sink.new) held.old held.new (entry_line entry.now)) }
-    ensures front { OnErr result (IsCutShort (K.text sink.old) (K.text sink.new) (held.old ++ entry_line entry.now)) }
+    ensures cut_short { OnErr result (IsCutShort (K.text sink.old) (K.text sink.new) (held.old ++ entry_line entry.now)) }
     ensures cause { result ≡ Err ReportFault.WriteFault → HasCause (K.faults sink.old) (K.faults sink.new) }
     ensures counts { K.faults sink.old ≤ K.faults sink.new }
 {

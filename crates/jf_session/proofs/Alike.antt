@@ -3,7 +3,7 @@ use Rattle.std.proofs.Common.{◌≡◌, inl, inr, ℕ, ◌-◌, true, cond, Non
 use Rattle.std.specs.Prelude.{Result, Ok, Err}
 use Rattle.jf_text.specs.Words.{is_long}
 use Rattle.jf_script.specs.Commands.{command_of}
-use Rattle.jf_input.specs.Feeds.{given_of}
+use Rattle.jf_input.specs.Feeds.{front_of_line}
 use Rattle.jf_input.proofs.Given.{given_alike}
 use Rattle.jf_model.specs.States.{State}
 use Rattle.jf_model.specs.declared.entries.Entry.{Entry}
@@ -34,7 +34,7 @@ pin_long : (line other : List ℕ) → is_long line ≡ true → is_long other �
 unfolding pin_of
 pin_long line other long long' = ap (λ b. cond b None (pin_of_command (command_of line))) long ∙ sym (ap (λ b. cond b None (pin_of_command (command_of other))) long')
 
-pub given_are_alike : (line whole : List ℕ) → line ≡ given_of whole → AreAlike line whole
+pub given_are_alike : (line whole : List ℕ) → line ≡ front_of_line whole → AreAlike line whole
 given_are_alike line whole given = record {
   pin = ap pin_of given ∙ given_alike pin_of pin_long whole;
   asks = ap is_own_line given ∙ given_alike is_own_line own_long whole;
@@ -118,5 +118,5 @@ module _ (line other : List ℕ) (k : AreAlike line other) where
   line_alike s new r a = record { start = a.start; start_is = a.start_is; begun = a.begun; over = a.over; events = a.events; makes = makes_alike a.start s new r a.makes }
 
 -- the result for a session of a line of which the front is given
-pub answers_given : (s new : Session) (line whole : List ℕ) (r : Result (List ℕ) Stop) → line ≡ given_of whole → AnswersLine s line new r → AnswersLine s whole new r
+pub answers_given : (s new : Session) (line whole : List ℕ) (r : Result (List ℕ) Stop) → line ≡ front_of_line whole → AnswersLine s line new r → AnswersLine s whole new r
 answers_given s new line whole r given a = line_alike line whole (given_are_alike line whole given) s new r a

@@ -2,7 +2,7 @@
 use Rattle.std.proofs.Common.{◌≡◌, inl, inr, ℕ, false, Some, List, [], ◌++◌, refl, sym, ap, append-nil}
 use Rattle.std.specs.Prelude.{◌⊎◌, Result, Ok, Err, OnOk, OnErr, IfErr}
 use denote.Ref.{Bor, MutBor}
-use Rattle.jf_input.specs.Feeds.{given_of}
+use Rattle.jf_input.specs.Feeds.{front_of_line}
 use Rattle.jf_text.specs.Words.{is_long}
 use Rattle.jf_lead.specs.declared.block.LandingBlock.{LandingBlock}
 use Rattle.jf_lead.specs.Landings.{landings_text}
@@ -156,17 +156,17 @@ module _ (start : Start) (s new : Session) (line told told' : List ℕ) (is : s.
 
 -- ---- a step of a machine
 -- the result for what is given of a line is the result for the line
-leads_given : (s new : Session) (line whole : List ℕ) (r : Result (List ℕ) Stop) → line ≡ given_of whole → LeadsLine s line new r → LeadsLine s whole new r
+leads_given : (s new : Session) (line whole : List ℕ) (r : Result (List ℕ) Stop) → line ≡ front_of_line whole → LeadsLine s line new r → LeadsLine s whole new r
 leads_given s new line whole (Ok told) given l = (l.0, l.1, answers_given s new line whole (Ok l.0) given l.2, l.3, l.4)
 leads_given s new line whole (Err stop.DiskFault) given l = (answers_given s new line whole (Err stop.DiskFault) given l.0, l.1)
 leads_given s new line whole (Err stop.Broken) given l = (answers_given s new line whole (Err stop.Broken) given l.0, l.1)
 leads_given s new line whole (Err stop.Memory) given l = (l.0, answers_given s new line whole (Err stop.Memory) given l.1, l.2)
 
-pub led_ok : (s new : Session) (line out out' : List ℕ) (r : Result (Unit {0}) Stop) → DoesLeading s line out r new out' → OnOk r ((t : List ℕ) × (out' ≡ out ++ t) × ((whole : List ℕ) → line ≡ given_of whole → LeadsLine s whole new (Ok t)))
+pub led_ok : (s new : Session) (line out out' : List ℕ) (r : Result (Unit {0}) Stop) → DoesLeading s line out r new out' → OnOk r ((t : List ℕ) × (out' ≡ out ++ t) × ((whole : List ℕ) → line ≡ front_of_line whole → LeadsLine s whole new (Ok t)))
 led_ok s new line out out' (Ok u) d = (d.0, d.1, λ whole given. leads_given s new line whole (Ok d.0) given d.2)
 led_ok s new line out out' (Err why) d = tt
 
-pub led_err : (s new : Session) (line out out' : List ℕ) (r : Result (Unit {0}) Stop) → DoesLeading s line out r new out' → (whole : List ℕ) → line ≡ given_of whole → IfErr r (λ why. LeadsLine s whole new (Err why))
+pub led_err : (s new : Session) (line out out' : List ℕ) (r : Result (Unit {0}) Stop) → DoesLeading s line out r new out' → (whole : List ℕ) → line ≡ front_of_line whole → IfErr r (λ why. LeadsLine s whole new (Err why))
 led_err s new line out out' (Ok u) d whole given = tt
 led_err s new line out out' (Err why) d whole given = leads_given s new line whole (Err why) given d.1
 
@@ -183,7 +183,7 @@ led_ready shown store s s' line out out' (Ok u) pre post may d =
 led_ready shown store s s' line out out' (Err why) pre post may d = tt
 
 -- whatever comes of a line that gives no entry, of which such a front is given, is quiet
-pub led_quiet : (s new : Session) (line whole : List ℕ) (r : Result (List ℕ) Stop) → GivesNone line → line ≡ given_of whole → LeadsLine s whole new r → StaysQuiet s new
+pub led_quiet : (s new : Session) (line whole : List ℕ) (r : Result (List ℕ) Stop) → GivesNone line → line ≡ front_of_line whole → LeadsLine s whole new r → StaysQuiet s new
 led_quiet s new line whole (Ok told) none given l = quiet_line s new line whole (Ok l.0) none given l.2
 led_quiet s new line whole (Err stop.DiskFault) none given l = quiet_line s new line whole (Err stop.DiskFault) none given l.0
 led_quiet s new line whole (Err stop.Broken) none given l = quiet_line s new line whole (Err stop.Broken) none given l.0

@@ -2,7 +2,7 @@
 use Rattle.std.proofs.Common.{◌≡◌, ◌⊎◌, inl, inr, ℕ, true, false, Some, List, ◌++◌, refl}
 use Rattle.std.specs.Prelude.{Result, Ok, Err, OnOk, OnErr, IfErr}
 use denote.Ref.{Bor, MutBor}
-use Rattle.jf_input.specs.Feeds.{given_of}
+use Rattle.jf_input.specs.Feeds.{front_of_line}
 use Rattle.jf_store.specs.Starts.{Start}
 use Rattle.jf_store.specs.Ledgers.{AreEvents}
 use Rattle.jf_store.specs.Passes.{Store, IsPassOf}
@@ -24,11 +24,11 @@ module _ (start : Start) (s new : Session) (line out out' : List ℕ) (is : s.pa
   steps_of (Err stop.Memory) ok on silent over fault broken memory = (silent, record { start = start; start_is = is; begun = begun; over = over; events = events; makes = elim (memory refl) [ inl i ↦ inl i | inr r ↦ inr (r.0.text, (r.0, r.1, refl)) ] })
 
 -- ---- a step of a machine
-pub took_ok : (s new : Session) (line out out' : List ℕ) (r : Result (Unit {0}) Stop) → DoesLine s line out r new out' → OnOk r ((t : List ℕ) × (out' ≡ out ++ t) × ((whole : List ℕ) → line ≡ given_of whole → AnswersLine s whole new (Ok t)))
+pub took_ok : (s new : Session) (line out out' : List ℕ) (r : Result (Unit {0}) Stop) → DoesLine s line out r new out' → OnOk r ((t : List ℕ) × (out' ≡ out ++ t) × ((whole : List ℕ) → line ≡ front_of_line whole → AnswersLine s whole new (Ok t)))
 took_ok s new line out out' (Ok done) d = (d.0, d.1, λ whole given. answers_given s new line whole (Ok d.0) given d.2)
 took_ok s new line out out' (Err why) d = tt
 
-pub took_err : (s new : Session) (line out out' : List ℕ) (r : Result (Unit {0}) Stop) → DoesLine s line out r new out' → (whole : List ℕ) → line ≡ given_of whole → IfErr r (λ why. AnswersLine s whole new (Err why))
+pub took_err : (s new : Session) (line out out' : List ℕ) (r : Result (Unit {0}) Stop) → DoesLine s line out r new out' → (whole : List ℕ) → line ≡ front_of_line whole → IfErr r (λ why. AnswersLine s whole new (Err why))
 took_err s new line out out' (Ok done) d whole given = tt
 took_err s new line out out' (Err why) d whole given = answers_given s new line whole (Err why) given d.1
 

@@ -3,7 +3,7 @@ use Rattle.std.proofs.Common.{◌≡◌, inl, inr, ℕ, None, List, [], ◌++◌
 use Rattle.std.specs.Prelude.{Result, Ok, Err, Option, is_some, cond, ◌∷◌}
 use Rattle.jf_model.specs.States.{State}
 use Rattle.jf_model.specs.declared.entries.Entry.{Entry}
-use Rattle.jf_input.specs.Feeds.{given_of}
+use Rattle.jf_input.specs.Feeds.{front_of_line}
 use Rattle.jf_store.specs.Starts.{Start}
 use Rattle.jf_store.specs.Ledgers.{AreEvents}
 use Rattle.jf_answers.specs.Own.{Own}
@@ -45,7 +45,7 @@ module _ (line : List ℕ) (none : GivesNone line) where
   makes_quiet start s new (Err stop.Memory) events m = elim m [ inl i ↦ i.others | inr r ↦ replied_quiet start s new r.1.0 events r.1.1 ]
 
 -- whatever comes of a line of which such a front is given is quiet
-pub quiet_line : (s new : Session) (line whole : List ℕ) (r : Result (List ℕ) Stop) → GivesNone line → line ≡ given_of whole → AnswersLine s whole new r → StaysQuiet s new
+pub quiet_line : (s new : Session) (line whole : List ℕ) (r : Result (List ℕ) Stop) → GivesNone line → line ≡ front_of_line whole → AnswersLine s whole new r → StaysQuiet s new
 quiet_line s new line whole r none given a =
     let alike = given_are_alike line whole given in
     makes_quiet whole (λ t own. sym (ap (λ (x : Answer). x.entry) (alike.answers t own)) ∙ none t own) a.start s new r a.events a.makes

@@ -4,7 +4,7 @@ use Rattle.std.specs.Prelude.{Some, Ok, Err, Result, OnOk, OnErr, slice_get}
 use Rattle.std.proofs.lemmas.Result.{on_ok_weaker}
 use Rattle.std.proofs.lemmas.List.{take-append-le, drop-append-le, length-drop, drop_more, drop_all}
 use Rattle.std.proofs.lemmas.Option.{slice_get_within, get_or_from_slice_get, slice_get_read}
-use Rattle.jf_session.specs.PreparedReplies.{replies_of, AreSizesOf, AreSizesFrom}
+use Rattle.jf_session.specs.PreparedReplies.{sized_replies, AreSizesOf, AreSizesFrom}
 
 -- ---- what is appended
 -- the sizes of what was appended stand after those of what was there
@@ -22,19 +22,19 @@ AreSizesOf-append (s ∷ ss) ss' ls ls' ts ts' h h' =
     )
 
 -- and so do its lines and texts
-pub replies_of-append : (ss ss' : List (ℕ × ℕ)) (ls ls' ts ts' : List ℕ) → AreSizesOf ss ls ts → replies_of (ss ++ ss') (ls ++ ls') (ts ++ ts') ≡ replies_of ss ls ts ++ replies_of ss' ls' ts'
-replies_of-append [] ss' ls ls' ts ts' h = ap₂ (λ (l t : List ℕ). replies_of ss' (l ++ ls') (t ++ ts')) h.0 h.1
-replies_of-append (s ∷ ss) ss' ls ls' ts ts' h =
+pub sized_replies-append : (ss ss' : List (ℕ × ℕ)) (ls ls' ts ts' : List ℕ) → AreSizesOf ss ls ts → sized_replies (ss ++ ss') (ls ++ ls') (ts ++ ts') ≡ sized_replies ss ls ts ++ sized_replies ss' ls' ts'
+sized_replies-append [] ss' ls ls' ts ts' h = ap₂ (λ (l t : List ℕ). sized_replies ss' (l ++ ls') (t ++ ts')) h.0 h.1
+sized_replies-append (s ∷ ss) ss' ls ls' ts ts' h =
     ap₂ (λ (r : List ℕ × List ℕ) (rs : List (List ℕ × List ℕ)). r ∷ rs)
     (ap₂ (λ (l t : List ℕ). (l, t)) (take-append-le s.0 ls ls' h.0) (take-append-le s.1 ts ts' h.1))
-    (ap₂ (λ (l t : List ℕ). replies_of (ss ++ ss') l t) (drop-append-le s.0 ls ls' h.0) (drop-append-le s.1 ts ts' h.1) ∙ replies_of-append ss ss' (drop s.0 ls) ls' (drop s.1 ts) ts' h.2)
+    (ap₂ (λ (l t : List ℕ). sized_replies (ss ++ ss') l t) (drop-append-le s.0 ls ls' h.0) (drop-append-le s.1 ts ts' h.1) ∙ sized_replies-append ss ss' (drop s.0 ls) ls' (drop s.1 ts) ts' h.2)
 
 -- one line and its text have one pair of sizes
 pub AreSizesOf-one : (l t : List ℕ) → AreSizesOf ((length l, length t) ∷ []) l t
 AreSizesOf-one l t = (omega arith, omega arith, (drop_all (length l) l (omega arith), drop_all (length t) t (omega arith)))
 
-pub replies_of-one : (l t : List ℕ) → replies_of ((length l, length t) ∷ []) l t ≡ (l, t) ∷ []
-replies_of-one l t = ap₂ (λ (x y : List ℕ). (x, y) ∷ []) (take_all (length l) l (omega arith)) (take_all (length t) t (omega arith))
+pub sized_replies-one : (l t : List ℕ) → sized_replies ((length l, length t) ∷ []) l t ≡ (l, t) ∷ []
+sized_replies-one l t = ap₂ (λ (x y : List ℕ). (x, y) ∷ []) (take_all (length l) l (omega arith)) (take_all (length t) t (omega arith))
 
 -- what follows from both outcomes of a call
 of_either : {T E P A B : Type 0} (r : Result T E) → OnOk r A → OnErr r B → (A → P) → (B → P) → P
@@ -55,10 +55,10 @@ module _ (k a b : ℕ) (ss : List (ℕ × ℕ)) (ls ts : List ℕ) (left : AreSi
       )
 
   -- and so is what it stands for
-  pub left-append : (ss' : List (ℕ × ℕ)) (ls' ts' : List ℕ) → replies_of (drop k (ss ++ ss')) (drop a (ls ++ ls')) (drop b (ts ++ ts')) ≡ replies_of (drop k ss) (drop a ls) (drop b ts) ++ replies_of ss' ls' ts'
+  pub left-append : (ss' : List (ℕ × ℕ)) (ls' ts' : List ℕ) → sized_replies (drop k (ss ++ ss')) (drop a (ls ++ ls')) (drop b (ts ++ ts')) ≡ sized_replies (drop k ss) (drop a ls) (drop b ts) ++ sized_replies ss' ls' ts'
   left-append ss' ls' ts' =
-      ap₂ (λ (s : List (ℕ × ℕ)) (l : List ℕ). replies_of s l (drop b (ts ++ ts'))) (drop-append-le k ss ss' left.0) (drop-append-le a ls ls' left.1)
-      ∙ ap (λ (t : List ℕ). replies_of (drop k ss ++ ss') (drop a ls ++ ls') t) (drop-append-le b ts ts' left.2) ∙ replies_of-append (drop k ss) ss' (drop a ls) ls' (drop b ts) ts' left.3
+      ap₂ (λ (s : List (ℕ × ℕ)) (l : List ℕ). sized_replies s l (drop b (ts ++ ts'))) (drop-append-le k ss ss' left.0) (drop-append-le a ls ls' left.1)
+      ∙ ap (λ (t : List ℕ). sized_replies (drop k ss ++ ss') (drop a ls ++ ls') t) (drop-append-le b ts ts' left.2) ∙ sized_replies-append (drop k ss) ss' (drop a ls) ls' (drop b ts) ts' left.3
 
   -- the first of what is left has these sizes
   module _ (s : ℕ × ℕ) (there : slice_get ss k ≡ Some s) where
@@ -82,20 +82,20 @@ module _ (k a b : ℕ) (ss : List (ℕ × ℕ)) (ls ts : List ℕ) (left : AreSi
     )
 
     -- what is left begins with it
-    pub left-first : replies_of (drop k ss) (drop a ls) (drop b ts) ≡ (take s.0 (drop a ls), take s.1 (drop b ts)) ∷ replies_of (drop (k + 1) ss) (drop (a + s.0) ls) (drop (b + s.1) ts)
+    pub left-first : sized_replies (drop k ss) (drop a ls) (drop b ts) ≡ (take s.0 (drop a ls), take s.1 (drop b ts)) ∷ sized_replies (drop (k + 1) ss) (drop (a + s.0) ls) (drop (b + s.1) ts)
     left-first =
-        ap (λ (x : List (ℕ × ℕ)). replies_of x (drop a ls) (drop b ts)) cut
-        ∙ ap₂ (λ (l t : List ℕ). (take s.0 (drop a ls), take s.1 (drop b ts)) ∷ replies_of (drop (k + 1) ss) l t) (drop-drop s.0 a ls) (drop-drop s.1 b ts)
+        ap (λ (x : List (ℕ × ℕ)). sized_replies x (drop a ls) (drop b ts)) cut
+        ∙ ap₂ (λ (l t : List ℕ). (take s.0 (drop a ls), take s.1 (drop b ts)) ∷ sized_replies (drop (k + 1) ss) l t) (drop-drop s.0 a ls) (drop-drop s.1 b ts)
 
     -- a value that stands for all that is left begins with it
-    pub now_first : (now : List (List ℕ × List ℕ)) → replies_of (drop k ss) (drop a ls) (drop b ts) ≡ now → (m n : ℕ) → m ≡ s.0 → n ≡ s.1 → now ≡ (take m (drop a ls), take n (drop b ts)) ∷ drop 1 now
+    pub now_first : (now : List (List ℕ × List ℕ)) → sized_replies (drop k ss) (drop a ls) (drop b ts) ≡ now → (m n : ℕ) → m ≡ s.0 → n ≡ s.1 → now ≡ (take m (drop a ls), take n (drop b ts)) ∷ drop 1 now
     now_first now is m n m_is n_is =
         let first = sym is ∙ left-first in
-        first ∙ ap₂ (λ (l t : List ℕ). (l, t) ∷ replies_of (drop (k + 1) ss) (drop (a + s.0) ls) (drop (b + s.1) ts)) (ap (λ i. take i (drop a ls)) (sym m_is)) (ap (λ i. take i (drop b ts)) (sym n_is))
+        first ∙ ap₂ (λ (l t : List ℕ). (l, t) ∷ sized_replies (drop (k + 1) ss) (drop (a + s.0) ls) (drop (b + s.1) ts)) (ap (λ i. take i (drop a ls)) (sym m_is)) (ap (λ i. take i (drop b ts)) (sym n_is))
         ∙ ap (λ (rest : List (List ℕ × List ℕ)). (take m (drop a ls), take n (drop b ts)) ∷ rest) (sym (ap (drop 1) first))
 
     -- and what is left after it stands for the rest
-    pub now_rest : (now : List (List ℕ × List ℕ)) → replies_of (drop k ss) (drop a ls) (drop b ts) ≡ now → replies_of (drop (k + 1) ss) (drop (a + s.0) ls) (drop (b + s.1) ts) ≡ drop 1 now
+    pub now_rest : (now : List (List ℕ × List ℕ)) → sized_replies (drop k ss) (drop a ls) (drop b ts) ≡ now → sized_replies (drop (k + 1) ss) (drop (a + s.0) ls) (drop (b + s.1) ts) ≡ drop 1 now
     now_rest now is = sym (ap (drop 1) (sym is ∙ left-first))
 
   -- the buffers and the sizes after a call that appends
@@ -106,11 +106,11 @@ module _ (k a b : ℕ) (ss : List (ℕ × ℕ)) (ls ts : List ℕ) (left : AreSi
         (λ h. subst (λ (s : List (ℕ × ℕ)). AreSizesFrom k a b s ls₂ ts₂) (sym h.2) (subst (λ (l : List ℕ). AreSizesFrom k a b (ss ++ ss') l ts₂) (sym h.0) (subst (λ (t : List ℕ). AreSizesFrom k a b (ss ++ ss') (ls ++ ls') t) (sym h.1) (AreSizesFrom-append ss' ls' ts' more))))
         (λ h. subst (λ (s : List (ℕ × ℕ)). AreSizesFrom k a b s ls₂ ts₂) (sym h.2) (subst (λ (l : List ℕ). AreSizesFrom k a b ss l ts₂) (sym h.0) (subst (λ (t : List ℕ). AreSizesFrom k a b ss ls t) (sym h.1) left)))
 
-    pub left-appended : (now : List (List ℕ × List ℕ)) → replies_of (drop k ss) (drop a ls) (drop b ts) ≡ now → (more : List (List ℕ × List ℕ)) → replies_of ss' ls' ts' ≡ more → OnOk r (replies_of (drop k ss₂) (drop a ls₂) (drop b ts₂) ≡ now ++ more)
+    pub left-appended : (now : List (List ℕ × List ℕ)) → sized_replies (drop k ss) (drop a ls) (drop b ts) ≡ now → (more : List (List ℕ × List ℕ)) → sized_replies ss' ls' ts' ≡ more → OnOk r (sized_replies (drop k ss₂) (drop a ls₂) (drop b ts₂) ≡ now ++ more)
     left-appended now is more more_is =
         on_ok_weaker r
-        (λ h. ap₂ (λ (s : List (ℕ × ℕ)) (l : List ℕ). replies_of (drop k s) (drop a l) (drop b ts₂)) h.2 h.0
-        ∙ ap (λ (t : List ℕ). replies_of (drop k (ss ++ ss')) (drop a (ls ++ ls')) (drop b t)) h.1
+        (λ h. ap₂ (λ (s : List (ℕ × ℕ)) (l : List ℕ). sized_replies (drop k s) (drop a l) (drop b ts₂)) h.2 h.0
+        ∙ ap (λ (t : List ℕ). sized_replies (drop k (ss ++ ss')) (drop a (ls ++ ls')) (drop b t)) h.1
         ∙ left-append ss' ls' ts'
         ∙ ap₂ (λ (x y : List (List ℕ × List ℕ)). x ++ y) is more_is)
         ok

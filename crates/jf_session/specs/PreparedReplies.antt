@@ -46,9 +46,9 @@ ArePreparedAt p rs = (start : Start) → p.start ≡ Some start → ArePreparedF
 
 -- ---- lines and texts in two buffers
 -- the lines and texts of these sizes that stand one after another in two buffers
-abbrev pub replies_of : List (ℕ × ℕ) → List ℕ → List ℕ → List (List ℕ × List ℕ)
-replies_of [] lines texts = []
-replies_of (s ∷ ss) lines texts = (take s.0 lines, take s.1 texts) ∷ replies_of ss (drop s.0 lines) (drop s.1 texts)
+abbrev pub sized_replies : List (ℕ × ℕ) → List ℕ → List ℕ → List (List ℕ × List ℕ)
+sized_replies [] lines texts = []
+sized_replies (s ∷ ss) lines texts = (take s.0 lines, take s.1 texts) ∷ sized_replies ss (drop s.0 lines) (drop s.1 texts)
 
 -- the sizes are those of all that stands in the buffers
 abbrev pub AreSizesOf : List (ℕ × ℕ) → List ℕ → List ℕ → Type 0

@@ -70,7 +70,7 @@ without_reply (Ok r) = Ok tt
 without_reply (Err why) = Err why
 
 -- a command was done, and what it landed, by an entry that is the last so far, is not told
-pub record DoesUntold (start : Start) (old new : Session) (c : Command) : Type 0 where
+pub record DoesWithoutBlocks (start : Start) (old new : Session) (c : Command) : Type 0 where
   pub reply : Reply
   pub lines : List ℕ
   pub done : IsDoneAs start old new c reply lines
@@ -83,7 +83,7 @@ abbrev pub IsLedAs : Start → Session → Session → Command → List ℕ → 
 IsLedAs start old new c told told' (Ok done) = (r : Reply) × (lines : List ℕ) × IsDoneAs start old new c r lines × (new.over ≡ false) × TellsLandings start old.pass new.pass told told'
 IsLedAs start old new c told told' (Err stop.DiskFault) = TriedFor start old new c × (told' ≡ told)
 IsLedAs start old new c told told' (Err stop.Broken) = StopsFor start old new c stop.Broken × (told' ≡ told)
-IsLedAs start old new c told told' (Err stop.Memory) = (NotDone old new c ⊎ DoesUntold start old new c) × (told' ≡ told)
+IsLedAs start old new c told told' (Err stop.Memory) = (NotDone old new c ⊎ DoesWithoutBlocks start old new c) × (told' ≡ told)
 
 -- ---- a line
 -- the pass of a session has landed these blocks more

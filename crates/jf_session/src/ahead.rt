@@ -19,13 +19,13 @@ const PARTS: u64 = 64;
 
 const MOST: u64 = 4096;
 
-// A `chunk`, whose reply may have megabytes, makes a part by itself, and at most sixteen are prepared at once.
+// The weight of a `chunk`, whose reply may have megabytes: it ends its part, and at most sixteen are prepared at once.
 const CHUNK: u64 = 256;
 
-// A `prove` takes about as long as so many shorter reads.
+// The weight of a `prove`, which takes about as long as so many shorter reads.
 const PROOF: u64 = 4;
 
-// After fewer lines than this it takes longer to start workers than to answer the lines.
+// With lines of less weight than this after the first it takes longer to start workers than to answer the lines.
 const FEWEST: u64 = 100;
 
 // The question that a line asks of the head, if many lines after it read the head too and there are workers for them.
@@ -60,7 +60,7 @@ pub(crate) fn prepare_run<H: Threads + Sync>(
     ensures { ArePreparedFor head.now.map seen result }
 {
     match prepare_parts(rt, alloc, head, seen, text, workers) {
-        Ok(parts) => joined(alloc, parts),
+        Ok(parts) => join_prepared(alloc, parts),
         Err(Memory) => PreparedReplies::new(alloc),
     }
 }
@@ -83,8 +83,8 @@ fn prepare_parts<H: Threads + Sync>(
     join_pieces(rt, alloc, &parts, workers, &FreeGate, &prepare)
 }
 
-// The replies of all parts, in order. If memory runs out, those of the first parts.
-fn joined(alloc: Global, parts: Vec<PreparedReplies>) -> PreparedReplies
+// The replies of all parts, in order; none if there is no memory for all of them.
+fn join_prepared(alloc: Global, parts: Vec<PreparedReplies>) -> PreparedReplies
     ensures { (m : Map) (n : ℕ) → AllByRecursion (λ part. ArePreparedFor m n part) parts.items → ArePreparedFor m n result }
 {
     let Ok(mut prepared) = PreparedReplies::with_room_for(alloc, &parts) else {

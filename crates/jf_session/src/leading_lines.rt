@@ -7,7 +7,7 @@ ghost use Rattle.jf_session.specs.Telling.{is_landing, IsLedAs, DoesLeading};
 
 use crate::session::Session;
 use crate::stop::Stop;
-use crate::telling::untold;
+use crate::telling::discard_reply;
 use jf_disk::Disk;
 use jf_join::{Gate, Workers};
 use jf_path::Bytes;
@@ -47,7 +47,7 @@ impl<D: Disk> Session<D> {
                 return Err(Stop::Memory);
             }
         };
-        let led = self.led_as(rt, alloc, store, command, workers, gate, told);
+        let led = self.lead_command(rt, alloc, store, command, workers, gate, told);
         self.know_own(store);
         self.know_events(store);
         match led {
@@ -60,7 +60,7 @@ impl<D: Disk> Session<D> {
     }
 
     // Does a command, and appends the blocks of what it lands.
-    fn led_as<H: Threads + Wait + Sync, G: Gate>(
+    fn lead_command<H: Threads + Wait + Sync, G: Gate>(
         &mut self,
         rt: &H,
         alloc: Global,
@@ -76,17 +76,17 @@ impl<D: Disk> Session<D> {
     {
         match command {
             Command::Change(Change::Commit) => {
-                self.commit_told(rt, alloc, store, workers, gate, told)
+                self.commit_with_blocks(rt, alloc, store, workers, gate, told)
             }
             Command::Change(Change::Land { id }) => {
-                self.land_told(rt, alloc, store, id, workers, gate, told)
+                self.land_with_blocks(rt, alloc, store, id, workers, gate, told)
             }
-            command => self.obeyed_untold(rt, alloc, store, command, workers, gate),
+            command => self.obey_without_blocks(rt, alloc, store, command, workers, gate),
         }
     }
 
     // Does a command that lands nothing. Its reply is dropped, and so are the lines that would follow it.
-    fn obeyed_untold<H: Threads + Wait + Sync, G: Gate>(
+    fn obey_without_blocks<H: Threads + Wait + Sync, G: Gate>(
         &mut self,
         rt: &H,
         alloc: Global,
@@ -104,6 +104,6 @@ impl<D: Disk> Session<D> {
         let mut lines = Bytes::new(alloc);
         let done = self.reply_to_command(rt, alloc, store, command, workers, gate, &mut lines);
         self.know_events(store);
-        untold(done)
+        discard_reply(done)
     }
 }

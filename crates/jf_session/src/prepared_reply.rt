@@ -12,7 +12,7 @@ use jf_script::{Base, Command, Question, read_line};
 use std::alloc::Global;
 use std::marker::Model;
 
-// So many lines make a part, and a `chunk`, whose reply may be long, makes one by itself.
+// A part ends with the line at which the weight of its lines is at least this.
 pub(crate) const PART: u64 = 64;
 
 /// Lines that read the head, each with the text of its reply and of the block after it, in the order in which they are
@@ -31,11 +31,11 @@ pub(crate) struct PreparedReplies {
 
 impl Model for PreparedReplies {
     ghost use Rattle.std.specs.Prelude.{ℕ, List, drop};
-    ghost use Rattle.jf_session.specs.PreparedReplies.{replies_of, AreSizesFrom};
+    ghost use Rattle.jf_session.specs.PreparedReplies.{sized_replies, AreSizesFrom};
 
     ghost Value = { List (List ℕ × List ℕ) };
 
-    ghost view = { λ r. replies_of (drop r.taken r.sizes.items) (drop r.line_start r.lines.items) (drop r.text_start r.texts.items) };
+    ghost view = { λ r. sized_replies (drop r.taken r.sizes.items) (drop r.line_start r.lines.items) (drop r.text_start r.texts.items) };
 
     ghost invariant = { λ r. AreSizesFrom r.taken r.line_start r.text_start r.sizes.items r.lines.items r.texts.items };
 }
@@ -207,8 +207,7 @@ pub(crate) fn write_head_reply(
     }
 }
 
-// Appends the reply to a line that reads the head, after so many entries; `false` if it doesn't, or memory ran out. Then
-// the text is unchanged.
+// Appends the reply to a line that reads the head, after so many entries; `false` if it doesn't, or memory ran out.
 fn writes_reply(alloc: Global, head: &Snapshot, seen: u64, line: &[u8], text: &mut Bytes) -> bool
     requires { text.old ≡ [] }
     ensures { IsTrue result → IsPreparedFor head.now.map seen line.now text.new }

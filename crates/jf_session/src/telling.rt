@@ -27,7 +27,7 @@ use std::thread::Threads;
 impl<D: Disk> Session<D> {
     // Does `commit` as `Session::commit` does, and appends the block of the version that landed in place of a reply. If
     // memory runs out for the block, the landing stands.
-    pub(crate) fn commit_told<H: Threads + Wait + Sync, G: Gate>(
+    pub(crate) fn commit_with_blocks<H: Threads + Wait + Sync, G: Gate>(
         &mut self,
         rt: &H,
         alloc: Global,
@@ -44,13 +44,13 @@ impl<D: Disk> Session<D> {
                 let root = landed.root;
                 tell_block(landed.version, &root, &batch, told)
             }
-            Err(refused) => untold(refused),
+            Err(refused) => discard_reply(refused),
         }
     }
 
     // Does `land` as `Session::land` does, and appends the blocks of the versions that landed in place of a reply. If
     // memory runs out for the blocks, the landing stands.
-    pub(crate) fn land_told<H: Threads + Wait + Sync, G: Gate>(
+    pub(crate) fn land_with_blocks<H: Threads + Wait + Sync, G: Gate>(
         &mut self,
         rt: &H,
         alloc: Global,
@@ -67,13 +67,13 @@ impl<D: Disk> Session<D> {
         self.pass.know(store);
         match landed {
             Ok(chain) => tell_chain(&chain, told),
-            Err(fault) => untold(refusal_reply(fault, &mut self.over)),
+            Err(fault) => discard_reply(refusal_reply(fault, &mut self.over)),
         }
     }
 }
 
 // Drops a reply: what it is a reply to landed nothing.
-pub(crate) fn untold(replied: Result<Reply, Stop>) -> Result<(), Stop>
+pub(crate) fn discard_reply(replied: Result<Reply, Stop>) -> Result<(), Stop>
     ensures { result ≡ without_reply replied }
 {
     match replied {

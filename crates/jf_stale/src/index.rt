@@ -97,7 +97,7 @@ impl StaleIndex {
         ensures least { IfSome result (λ m. All (λ k. mark_cmp m k ≡ Less) self.new) }
         ensures due { IfSome result (λ m. m.0 ≤ floor) }
         ensures given { IsNone result ↔ All (λ m. floor < m.0) self.old }
-        ensures kept { IfNone result (self.new ≡ self.old) }
+        ensures none { IfNone result (self.new ≡ self.old) }
     {
         drop_empty(&mut self.groups);
         let since = self.groups.front()?.since();

@@ -7,7 +7,7 @@ use Rattle.jf_path.proofs.FilterLaws.{Contains-filter, filter-Contains, filter-p
 use Rattle.jf_hash.specs.Slots.{Part}
 use Rattle.jf_model.specs.Nodes.{Path, plain_node}
 use Rattle.jf_walk.proofs.PlainLaws.{plain_node-versions}
-use Rattle.jf_standing.specs.Named.{Named, is_at, alive_at, version_at}
+use Rattle.jf_standing.specs.Named.{Named, is_at, alive_nodes_at, version_at}
 use Rattle.jf_standing.proofs.Lists.{none_in_nothing}
 use Rattle.jf_standing.proofs.Counts.{count-one}
 use Rattle.jf_standing.proofs.Unmoved.{at-so}
@@ -18,11 +18,11 @@ first_version [] n has one = absurd (none_in_nothing n has)
 first_version (m ∷ ns) n has one = ap (λ (k : Named). k.0.version) (one m (Contains-first m ns))
 
 -- if at most one node is alive at a path, the version at that path is this node's
-pub version-of : (w : ℕ) (ns : List Named) (q : Path) (n : Named) → count_by (is_at q) (alive_at w ns) ≤ 1 → Contains (alive_at w ns) n → n.0.path ≡ q → version_at w ns q ≡ n.0.version
+pub version-of : (w : ℕ) (ns : List Named) (q : Path) (n : Named) → count_by (is_at q) (alive_nodes_at w ns) ≤ 1 → Contains (alive_nodes_at w ns) n → n.0.path ≡ q → version_at w ns q ≡ n.0.version
 version-of w ns q n few has at =
     let here = at-so q n at in
-    first_version (filter (is_at q) (alive_at w ns)) n (Contains-filter (is_at q) (alive_at w ns) n has here)
-    (λ m there. count-one (is_at q) (alive_at w ns) m n few (filter-Contains (is_at q) (alive_at w ns) m there) has (filter-passes (is_at q) (alive_at w ns) m there) here)
+    first_version (filter (is_at q) (alive_nodes_at w ns)) n (Contains-filter (is_at q) (alive_nodes_at w ns) n has here)
+    (λ m there. count-one (is_at q) (alive_nodes_at w ns) m n few (filter-Contains (is_at q) (alive_nodes_at w ns) m there) has (filter-passes (is_at q) (alive_nodes_at w ns) m there) here)
 
 -- a node depends only on the versions of the children that it has
 pub plain_node-same : (counted : Bool) (v w : ℕ → ℕ) (d : ℕ) (es : Part) → ((i : ℕ) → parts_at d i es ≡ true → v i ≡ w i) → plain_node counted v d es ≡ plain_node counted w d es

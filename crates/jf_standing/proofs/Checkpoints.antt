@@ -15,7 +15,7 @@ use Rattle.jf_hash.specs.Maps.{IsMap, Map}
 use Rattle.jf_hash.specs.Roots.{root}
 use Rattle.jf_model.specs.Nodes.{Path, is_node}
 use Rattle.jf_codec.specs.declared.format.Format.{Format}
-use Rattle.jf_standing.specs.Named.{Named, is_alive, is_at, alive_at, version_at, not_stale, map_at}
+use Rattle.jf_standing.specs.Named.{Named, is_alive, is_at, alive_nodes_at, version_at, not_stale, map_at}
 use Rattle.jf_standing.specs.Standing.{Standing, with_nodes, versions_of}
 use Rattle.jf_standing.specs.Next.{IsReadStanding}
 use Rattle.jf_standing.specs.Building.{floor_of, rebuilt, nodes_by_name, landed_on, built_standing, up_from, apart, as_named, checkpoint_of}
@@ -39,7 +39,7 @@ first_low [] most low = omega arith
 first_low (n ∷ ns) most low = low n (Contains-first n ns)
 
 pub version-at_most : (w : ℕ) (ns : List Named) (p : Path) → version_at w ns p ≤ w
-version-at_most w ns p = first_low (filter (is_at p) (alive_at w ns)) w (λ n has. (alive-tells w n (filter-passes (is_alive w) ns n (filter-Contains (is_at p) (alive_at w ns) n has))).0)
+version-at_most w ns p = first_low (filter (is_at p) (alive_nodes_at w ns)) w (λ n has. (alive-tells w n (filter-passes (is_alive w) ns n (filter-Contains (is_at p) (alive_nodes_at w ns) n has))).0)
 
 -- ---- any list of nodes
 module _ (fmt : Format) (s : Standing) (read : IsReadStanding s) (top : version_at s.floor s.nodes [] ≡ s.floor) (room : (w : ℕ) → s.floor ≤ w → w ≤ s.head → len (map_at w s.nodes) ≤ 2 ^ 63) where

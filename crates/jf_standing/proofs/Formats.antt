@@ -17,7 +17,7 @@ use Rattle.jf_codec.specs.declared.format.Format.{Format}
 use Rattle.jf_codec.specs.declared.format.Format.TheVariants as format
 use Rattle.jf_payload.specs.Counted.{commit_in}
 use Rattle.jf_payload.specs.declared.records.Commit.{Commit}
-use Rattle.jf_standing.specs.Named.{leaf_entry, Named, leaf_entries, is_alive, alive_at, is_written, written_at, is_stale, stale_at, map_at, is_at, version_at}
+use Rattle.jf_standing.specs.Named.{leaf_entry, Named, leaf_entries, is_alive, alive_nodes_at, is_written, written_nodes_at, is_stale, stale_nodes_at, map_at, is_at, version_at}
 use Rattle.jf_standing.specs.Sound.{is_counted, IsNodeOf, IsVersion, IsStep, IsSound}
 use Rattle.jf_standing.specs.Standing.{Standing, down_from, versions_of, is_named, marked_node, unmarked_node, with_commit, with_floor}
 use Rattle.jf_standing.specs.FormatLaws.{standing_in}
@@ -47,19 +47,19 @@ module _ (fmt : Format) where
   leaves_kept [] = refl
   leaves_kept (n ∷ ns) = ap₂ (λ o es. cons_option o es) (leaf_same fmt n.1) (leaves_kept ns)
 
-  alive_kept : (w : ℕ) (ns : List Named) → alive_at w (map named_in_format ns) ≡ map named_in_format (alive_at w ns)
+  alive_kept : (w : ℕ) (ns : List Named) → alive_nodes_at w (map named_in_format ns) ≡ map named_in_format (alive_nodes_at w ns)
   alive_kept w ns = filter-map (is_alive w) named_in_format ns
 
-  written_kept : (w : ℕ) (ns : List Named) → written_at w (map named_in_format ns) ≡ map named_in_format (written_at w ns)
+  written_kept : (w : ℕ) (ns : List Named) → written_nodes_at w (map named_in_format ns) ≡ map named_in_format (written_nodes_at w ns)
   written_kept w ns = filter-map (is_written w) named_in_format ns
 
-  stale_kept : (w : ℕ) (ns : List Named) → stale_at w (map named_in_format ns) ≡ map named_in_format (stale_at w ns)
+  stale_kept : (w : ℕ) (ns : List Named) → stale_nodes_at w (map named_in_format ns) ≡ map named_in_format (stale_nodes_at w ns)
   stale_kept w ns = filter-map (is_stale w) named_in_format ns
 
   -- the maps are unchanged
   pub map_kept : (w : ℕ) (ns : List Named) → map_at w (map named_in_format ns) ≡ map_at w ns
   unfolding map_at
-  map_kept w ns = ap from_entries (ap leaf_entries (alive_kept w ns) ∙ leaves_kept (alive_at w ns))
+  map_kept w ns = ap from_entries (ap leaf_entries (alive_kept w ns) ∙ leaves_kept (alive_nodes_at w ns))
 
   numbers_kept : (ns : List Named) → map (λ n. n.0.version) (map named_in_format ns) ≡ map (λ n. n.0.version) ns
   numbers_kept [] = refl
@@ -69,8 +69,8 @@ module _ (fmt : Format) where
   pub version_kept : (w : ℕ) (ns : List Named) (p : Path) → version_at w (map named_in_format ns) p ≡ version_at w ns p
   version_kept w ns p =
       ap (λ xs. slice_index_or (map (λ n. n.0.version) (filter (is_at p) xs)) 0 0) (alive_kept w ns)
-      ∙ ap (λ xs. slice_index_or (map (λ n. n.0.version) xs) 0 0) (filter-map (is_at p) named_in_format (alive_at w ns))
-      ∙ ap (λ vs. slice_index_or vs 0 0) (numbers_kept (filter (is_at p) (alive_at w ns)))
+      ∙ ap (λ xs. slice_index_or (map (λ n. n.0.version) xs) 0 0) (filter-map (is_at p) named_in_format (alive_nodes_at w ns))
+      ∙ ap (λ vs. slice_index_or vs 0 0) (numbers_kept (filter (is_at p) (alive_nodes_at w ns)))
 
   count_kept : (p : Path) (ns : List Named) → count_by (is_at p) (map named_in_format ns) ≡ count_by (is_at p) ns
   count_kept p [] = refl
@@ -97,19 +97,19 @@ module _ (fmt : Format) where
 
   is_version_kept : (w : ℕ) (ns : List Named) (recorded : List ℕ) → IsVersion format.Two ns w recorded → IsVersion fmt (map named_in_format ns) w recorded
   is_version_kept w ns recorded v = record {
-    one_leaf = subst (λ es. IsDistinct same_key (map (λ e. e.0) es)) (sym (ap leaf_entries (alive_kept w ns) ∙ leaves_kept (alive_at w ns))) v.one_leaf;
-    nodes = subst (AllByRecursion (IsNodeOf fmt w (map named_in_format ns))) (sym (alive_kept w ns)) (all_kept (IsNodeOf fmt w (map named_in_format ns)) (alive_at w ns) (nodes_kept w ns (alive_at w ns) v.nodes));
+    one_leaf = subst (λ es. IsDistinct same_key (map (λ e. e.0) es)) (sym (ap leaf_entries (alive_kept w ns) ∙ leaves_kept (alive_nodes_at w ns))) v.one_leaf;
+    nodes = subst (AllByRecursion (IsNodeOf fmt w (map named_in_format ns))) (sym (alive_kept w ns)) (all_kept (IsNodeOf fmt w (map named_in_format ns)) (alive_nodes_at w ns) (nodes_kept w ns (alive_nodes_at w ns) v.nodes));
     rooted = v.rooted ∙ ap root (sym (map_kept w ns));
     room = subst (λ m. len m ≤ 2 ^ 63) (sym (map_kept w ns)) v.room;
   }
 
   step_kept : (w : ℕ) (ns : List Named) → IsStep ns w → IsStep (map named_in_format ns) w
   step_kept w ns step = record {
-    fresh = λ p. stands_kept (λ p. cond (is_fresh (entries (map_at (w - 1) ns)) (entries (map_at w ns)) p) 1 0) (written_at w ns) (written_at w (map named_in_format ns)) (written_kept w ns) step.fresh p
+    fresh = λ p. stands_kept (λ p. cond (is_fresh (entries (map_at (w - 1) ns)) (entries (map_at w ns)) p) 1 0) (written_nodes_at w ns) (written_nodes_at w (map named_in_format ns)) (written_kept w ns) step.fresh p
         ∙ ap₂ (λ m k. cond (is_fresh (entries m) (entries k) p) 1 0) (sym (map_kept (w - 1) ns)) (sym (map_kept w ns));
-    stale = λ p. stands_kept (λ p. cond (is_fresh (entries (map_at w ns)) (entries (map_at (w - 1) ns)) p) 1 0) (stale_at w ns) (stale_at w (map named_in_format ns)) (stale_kept w ns) step.stale p
+    stale = λ p. stands_kept (λ p. cond (is_fresh (entries (map_at w ns)) (entries (map_at (w - 1) ns)) p) 1 0) (stale_nodes_at w ns) (stale_nodes_at w (map named_in_format ns)) (stale_kept w ns) step.stale p
         ∙ ap₂ (λ m k. cond (is_fresh (entries m) (entries k) p) 1 0) (sym (map_kept w ns)) (sym (map_kept (w - 1) ns));
-    stood = subst (AllByRecursion (λ n. IsTrue (is_alive (w - 1) n))) (sym (stale_kept w ns)) (all_kept (λ n. IsTrue (is_alive (w - 1) n)) (stale_at w ns) step.stood);
+    stood = subst (AllByRecursion (λ n. IsTrue (is_alive (w - 1) n))) (sym (stale_kept w ns)) (all_kept (λ n. IsTrue (is_alive (w - 1) n)) (stale_nodes_at w ns) step.stood);
   }
 
   pub sound_kept : (s : Standing) → IsSound format.Two s → IsSound fmt (standing_in fmt s)
@@ -118,7 +118,7 @@ module _ (fmt : Format) where
     floor_low = sound.floor_low;
     head_last = sound.head_last;
     root_each = sound.root_each;
-    floor_nodes = λ p. stands_kept (λ p. cond (is_node 0 p (entries (map_at s.floor s.nodes))) 1 0) (alive_at s.floor s.nodes) (alive_at s.floor (map named_in_format s.nodes)) (alive_kept s.floor s.nodes) sound.floor_nodes p
+    floor_nodes = λ p. stands_kept (λ p. cond (is_node 0 p (entries (map_at s.floor s.nodes))) 1 0) (alive_nodes_at s.floor s.nodes) (alive_nodes_at s.floor (map named_in_format s.nodes)) (alive_kept s.floor s.nodes) sound.floor_nodes p
         ∙ ap (λ m. cond (is_node 0 p (entries m)) 1 0) (sym (map_kept s.floor s.nodes));
     floor_root = version_kept s.floor s.nodes [] ∙ sound.floor_root;
     versions = λ w low high. is_version_kept w s.nodes (slice_index_or s.roots (s.head - w) []) (sound.versions w low high);

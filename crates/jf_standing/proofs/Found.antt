@@ -16,7 +16,7 @@ use Rattle.jf_model.specs.Nodes.{is_fresh, Path, is_node, under, fresh}
 use Rattle.jf_codec.specs.declared.format.Format.{Format}
 use Rattle.jf_payload.specs.declared.records.Commit.{Commit}
 use Rattle.jf_walk.proofs.FreshOrder.{sorted-fresh}
-use Rattle.jf_standing.specs.Named.{Named, map_at, written_at, stale_at, is_at, alive_at, is_alive, is_written, version_at}
+use Rattle.jf_standing.specs.Named.{Named, map_at, written_nodes_at, stale_nodes_at, is_at, alive_nodes_at, is_alive, is_written, version_at}
 use Rattle.jf_standing.specs.Standing.{marked_node, unmarked_node, Standing, with_commit, is_named}
 use Rattle.jf_standing.specs.Sound.{IsSound, IsStep, StandAt, is_counted}
 use Rattle.jf_standing.specs.Taking.{Continues}
@@ -56,20 +56,20 @@ module _ (fmt : Format) (s : Standing) (c : Commit) (sound : IsSound fmt s) (goe
       ap (λ v. map_at v (nodes_after_commit c s.nodes)) (let next = goes.next in let e : c.version - 1 ≡ s.head = omega arith in e)
       ∙ map-nodes_after_commit c s.head s.nodes (let next = goes.next in omega arith) goes.fresh_own (unmoved fmt s c sound goes behind_sound s.head sound.floor_low (omega arith))
 
-  pub fresh_stand : StandAt (is_fresh (entries (head_map s)) (entries landed_map)) (written_at c.version (nodes_after_commit c s.nodes))
-  fresh_stand = subst (λ m. StandAt (is_fresh (entries m) (entries landed_map)) (written_at c.version (nodes_after_commit c s.nodes))) map_before step.fresh
+  pub fresh_stand : StandAt (is_fresh (entries (head_map s)) (entries landed_map)) (written_nodes_at c.version (nodes_after_commit c s.nodes))
+  fresh_stand = subst (λ m. StandAt (is_fresh (entries m) (entries landed_map)) (written_nodes_at c.version (nodes_after_commit c s.nodes))) map_before step.fresh
 
-  pub stale_stand : StandAt (is_fresh (entries landed_map) (entries (head_map s))) (stale_at c.version (nodes_after_commit c s.nodes))
-  stale_stand = subst (λ m. StandAt (is_fresh (entries landed_map) (entries m)) (stale_at c.version (nodes_after_commit c s.nodes))) map_before step.stale
+  pub stale_stand : StandAt (is_fresh (entries landed_map) (entries (head_map s))) (stale_nodes_at c.version (nodes_after_commit c s.nodes))
+  stale_stand = subst (λ m. StandAt (is_fresh (entries landed_map) (entries m)) (stale_nodes_at c.version (nodes_after_commit c s.nodes))) map_before step.stale
 
-  pub few : (q : Path) → count_by (is_at q) (alive_at c.version (nodes_after_commit c s.nodes)) ≤ 1
+  pub few : (q : Path) → count_by (is_at q) (alive_nodes_at c.version (nodes_after_commit c s.nodes)) ≤ 1
   few q = few-alive fmt (with_commit c s) behind_sound c.version (let next = goes.next in let low = sound.floor_low in omega arith) (omega arith) q
 
-  pub few_before : (q : Path) → count_by (is_at q) (alive_at s.head s.nodes) ≤ 1
+  pub few_before : (q : Path) → count_by (is_at q) (alive_nodes_at s.head s.nodes) ≤ 1
   few_before q = few-alive fmt s sound s.head sound.floor_low (omega arith) q
 
   -- a node that the landing writes is alive after it
-  written_alive : (n : Named) → Contains (nodes_after_commit c s.nodes) n → n.0.version ≡ c.version → Contains (alive_at c.version (nodes_after_commit c s.nodes)) n
+  written_alive : (n : Named) → Contains (nodes_after_commit c s.nodes) n → n.0.version ≡ c.version → Contains (alive_nodes_at c.version (nodes_after_commit c s.nodes)) n
   written_alive n has at = nodes_after_commit-cases c s.nodes n has
       (λ m stood is. absurd (let low = version-low fmt s sound m stood in let same = ap (λ (k : NodeName). k.version) (sym (marked-name c m) ∙ ap (λ (k : Named). k.0) is) in let next = goes.next in omega arith))
       (λ x own is. Contains-filter (is_alive c.version) (nodes_after_commit c s.nodes) n has (ap (is_alive c.version) (sym is) ∙ alive-so c.version (unmarked_node x) (let v = ap (λ (k : Named). k.0.version) is in omega arith) behind_sound.head_last))
@@ -83,7 +83,7 @@ module _ (fmt : Format) (s : Standing) (c : Commit) (sound : IsSound fmt s) (goe
       let n_alive = filter-passes (is_alive c.version) (nodes_after_commit c s.nodes) n.0 n.1 in
       elim (is_fresh (entries (head_map s)) (entries landed_map) q) as (λ b. is_fresh (entries (head_map s)) (entries landed_map) q ≡ b → version_at c.version (nodes_after_commit c s.nodes) q ≡ cond b (s.head + 1) (version_at s.head s.nodes q)) [
         | true ↦ λ is.
-            let m = count-which (is_at q) (written_at c.version (nodes_after_commit c s.nodes)) (omega (arith, fresh_stand q, one-true _ is)) in
+            let m = count-which (is_at q) (written_nodes_at c.version (nodes_after_commit c s.nodes)) (omega (arith, fresh_stand q, one-true _ is)) in
             let m_in = filter-Contains (is_written c.version) (nodes_after_commit c s.nodes) m.0 m.1 in
             let m_at = number_tells m.0.0.version c.version (filter-passes (is_written c.version) (nodes_after_commit c s.nodes) m.0 m.1) in
             version-of c.version (nodes_after_commit c s.nodes) q m.0 (few q) (written_alive m.0 m_in m_at) (at-tells q m.0 m.2) ∙ m_at ∙ next
@@ -99,7 +99,7 @@ module _ (fmt : Format) (s : Standing) (c : Commit) (sound : IsSound fmt s) (goe
             (λ x own same. absurd (
             let v : n.0.0.version ≡ c.version = ap (λ (k : Named). k.0.version) (sym same) ∙ All-of (λ x. x.0.version ≡ c.version) c.fresh x goes.fresh_own own in
             let there = Contains-filter (is_written c.version) (nodes_after_commit c s.nodes) n.0 n_in (same_number n.0.0.version c.version v) in
-            true≢false (sym (test_so _ _ (fresh_stand q) (count-some (is_at q) (written_at c.version (nodes_after_commit c s.nodes)) n.0 there (at-so q n.0 n.2))) ∙ is)))
+            true≢false (sym (test_so _ _ (fresh_stand q) (count-some (is_at q) (written_nodes_at c.version (nodes_after_commit c s.nodes)) n.0 there (at-so q n.0 n.2))) ∙ is)))
       ] refl
 
   -- each node that the landing writes is the one that a landing of the map after it writes there
@@ -111,9 +111,9 @@ module _ (fmt : Format) (s : Standing) (c : Commit) (sound : IsSound fmt s) (goe
       let v = All-of (λ x. x.0.version ≡ c.version) c.fresh x goes.fresh_own has in
       let stood = Contains-append_right (map (marked_node c) s.nodes) (map unmarked_node c.fresh) (unmarked_node x) (Contains-map unmarked_node c.fresh x has) in
       let there = Contains-filter (is_written c.version) (nodes_after_commit c s.nodes) (unmarked_node x) stood (same_number x.0.version c.version v) in
-      let is = test_so _ _ (fresh_stand p) (count-some (is_at p) (written_at c.version (nodes_after_commit c s.nodes)) (unmarked_node x) there (at-so p (unmarked_node x) refl)) in
+      let is = test_so _ _ (fresh_stand p) (count-some (is_at p) (written_nodes_at c.version (nodes_after_commit c s.nodes)) (unmarked_node x) there (at-so p (unmarked_node x) refl)) in
       let node = fresh-node (entries (head_map s)) (entries landed_map) p is in
-      let content = All-of _ (alive_at c.version (nodes_after_commit c s.nodes)) (unmarked_node x) (behind_sound.versions c.version (omega arith) (omega arith)).nodes (written_alive (unmarked_node x) stood v) in (
+      let content = All-of _ (alive_nodes_at c.version (nodes_after_commit c s.nodes)) (unmarked_node x) (behind_sound.versions c.version (omega arith) (omega arith)).nodes (written_alive (unmarked_node x) stood v) in (
         is,
         ap₂ (λ k y. (record { version = k; path = p }, y)) (v ∙ next)
             (content ∙ plain_node-same (is_counted fmt) (λ i. version_at c.version (nodes_after_commit c s.nodes) (p ++ i ∷ [])) (λ i. version_after s landed_map (p ++ i ∷ [])) (length p) (under 0 p (entries landed_map)) (λ i some. version_found (p ++ i ∷ []) (child-node (entries landed_map) p i node some))),
@@ -130,7 +130,7 @@ module _ (fmt : Format) (s : Standing) (c : Commit) (sound : IsSound fmt s) (goe
         (λ y has.
         let x = map-which (written_node fmt s landed_map) (fresh (head_map s) landed_map) y has in
         let is = listed-fresh (head_map s) landed_map x.0 x.1 in
-        let n = count-which (is_at x.0.0) (written_at c.version (nodes_after_commit c s.nodes)) (omega (arith, fresh_stand x.0.0, one-true _ is.0)) in
+        let n = count-which (is_at x.0.0) (written_nodes_at c.version (nodes_after_commit c s.nodes)) (omega (arith, fresh_stand x.0.0, one-true _ is.0)) in
         let n_in = filter-Contains (is_written c.version) (nodes_after_commit c s.nodes) n.0 n.1 in
         let n_at = number_tells n.0.0.version c.version (filter-passes (is_written c.version) (nodes_after_commit c s.nodes) n.0 n.1) in
         nodes_after_commit-cases c s.nodes n.0 n_in

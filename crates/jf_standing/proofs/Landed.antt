@@ -16,7 +16,7 @@ use Rattle.jf_payload.specs.declared.records.Commit.{Commit}
 use Rattle.jf_standing.specs.Standing.{Standing, with_commit, is_named, marked_node}
 use Rattle.jf_standing.specs.Sound.{IsSound}
 use Rattle.jf_standing.specs.Taking.{Continues}
-use Rattle.jf_standing.specs.Named.{Named, is_alive, is_stale, is_at, stale_at}
+use Rattle.jf_standing.specs.Named.{Named, is_alive, is_stale, is_at, stale_nodes_at}
 use Rattle.jf_standing.specs.Landing.{head_map, name_at_head, stale_names, landing_of, IsInOrder}
 use Rattle.jf_standing.proofs.Found.{landed_map, test_so, stale_stand, nodes_after_commit-cases, few_before, fresh_equal}
 use Rattle.jf_standing.proofs.Counts.{count-some, count-which}
@@ -41,7 +41,7 @@ module _ (fmt : Format) (s : Standing) (c : Commit) (sound : IsSound fmt s) (goe
       let alive : is_alive s.head (marked_node c n) ≡ true = ap (is_alive s.head) is ∙ alive-so s.head (n.0, n.1, c.version) low (omega arith) in
       let there = Contains-filter (is_stale c.version) (nodes_after_commit c s.nodes) (marked_node c n) (Contains-nodes_after_commit c s.nodes n has) (ap (is_stale c.version) is ∙ same_number c.version c.version refl) in (
         sym (All-of _ s.nodes n (unmoved fmt s c sound goes behind_sound s.head sound.floor_low (omega arith)) has) ∙ alive,
-        test_so _ _ (stale_stand fmt s c sound goes behind_sound n.0.path) (count-some (is_at n.0.path) (stale_at c.version (nodes_after_commit c s.nodes)) (marked_node c n) there (at-so n.0.path (marked_node c n) (ap (λ m. m.path) (marked-name c n)))),
+        test_so _ _ (stale_stand fmt s c sound goes behind_sound n.0.path) (count-some (is_at n.0.path) (stale_nodes_at c.version (nodes_after_commit c s.nodes)) (marked_node c n) there (at-so n.0.path (marked_node c n) (ap (λ m. m.path) (marked-name c n)))),
       )
 
   -- a node that is stale in the map after the landing is named
@@ -49,7 +49,7 @@ module _ (fmt : Format) (s : Standing) (c : Commit) (sound : IsSound fmt s) (goe
   stale_is p is =
       let next = goes.next in
       let last = behind_sound.head_last in
-      let n = count-which (is_at p) (stale_at c.version (nodes_after_commit c s.nodes)) (omega (arith, stale_stand fmt s c sound goes behind_sound p, one-true _ is)) in
+      let n = count-which (is_at p) (stale_nodes_at c.version (nodes_after_commit c s.nodes)) (omega (arith, stale_stand fmt s c sound goes behind_sound p, one-true _ is)) in
       let n_in = filter-Contains (is_stale c.version) (nodes_after_commit c s.nodes) n.0 n.1 in
       let n_stale = number_tells n.0.2 c.version (filter-passes (is_stale c.version) (nodes_after_commit c s.nodes) n.0 n.1) in
       nodes_after_commit-cases c s.nodes n.0 n_in

@@ -12,7 +12,7 @@ use Rattle.jf_hash.specs.Roots.{root}
 use Rattle.jf_hash.specs.Slots.{Part}
 use Rattle.jf_model.specs.Nodes.{Path, under, plain_node, is_fresh, stale, is_node}
 use Rattle.jf_codec.specs.declared.format.Format.{Format}
-use Rattle.jf_standing.specs.Named.{Named, not_stale, alive_at, map_at, version_at, is_at, is_written, written_at, is_alive, is_stale, stale_at, leaf_entries}
+use Rattle.jf_standing.specs.Named.{Named, not_stale, alive_nodes_at, map_at, version_at, is_at, is_written, written_nodes_at, is_alive, is_stale, stale_nodes_at, leaf_entries}
 use Rattle.jf_standing.specs.Standing.{Standing, marked_node, is_named, with_commit}
 use Rattle.jf_standing.specs.Sound.{IsSound, StandAt, is_counted, IsVersion, IsStep}
 use Rattle.jf_standing.specs.Landing.{head_map, landing_of, version_after, name_at_head, stale_names}
@@ -36,7 +36,7 @@ module _ (fmt : Format) (s : Standing) (m : Map) (sound : IsSound fmt s) (keys :
   own = now fmt s m sound keys own_keys last
 
   -- ---- an earlier version
-  alive_own : (w : ℕ) → w ≤ s.head → alive_at w own ≡ map (marked_node (landing_of fmt s m)) (alive_at w s.nodes)
+  alive_own : (w : ℕ) → w ≤ s.head → alive_nodes_at w own ≡ map (marked_node (landing_of fmt s m)) (alive_nodes_at w s.nodes)
   alive_own w high = alive-nodes_after_commit (landing_of fmt s m) w s.nodes (omega arith) (fresh-own fmt s m) (still fmt s m sound keys own_keys last w high)
 
   pub map_own : (w : ℕ) → w ≤ s.head → map_at w own ≡ map_at w s.nodes
@@ -49,7 +49,7 @@ module _ (fmt : Format) (s : Standing) (m : Map) (sound : IsSound fmt s) (keys :
   count_marked : (p : Path) (ns : List Named) → count_by (is_at p) (map (marked_node (landing_of fmt s m)) ns) ≡ count_by (is_at p) ns
   count_marked p ns = count-map (is_at p) (marked_node (landing_of fmt s m)) ns ∙ count-same (λ n. is_at p (marked_node (landing_of fmt s m) n)) (is_at p) ns (All-each_element _ ns (λ n has. ap (λ k. bytes_eq k.path p) (marked-name (landing_of fmt s m) n)))
 
-  written_own : (w : ℕ) → w ≤ s.head → written_at w own ≡ map (marked_node (landing_of fmt s m)) (written_at w s.nodes)
+  written_own : (w : ℕ) → w ≤ s.head → written_nodes_at w own ≡ map (marked_node (landing_of fmt s m)) (written_nodes_at w s.nodes)
   written_own w high = filter-unchanged (is_written w) (landing_of fmt s m) s.nodes (none_written (landing_of fmt s m) w (landing_of fmt s m).fresh (omega arith) (fresh-own fmt s m)) (All-each_element _ s.nodes (λ n has. ap (λ k. k.version == w) (marked-name (landing_of fmt s m) n)))
 
   stale_same : (w : ℕ) → w ≤ s.head → (n : Named) → Contains s.nodes n → is_stale w (marked_node (landing_of fmt s m) n) ≡ is_stale w n
@@ -64,7 +64,7 @@ module _ (fmt : Format) (s : Standing) (m : Map) (sound : IsSound fmt s) (keys :
       parts true b h = refl
       parts false b h = absurd (true≢false (sym h))
 
-  stale_own : (w : ℕ) → w ≤ s.head → stale_at w own ≡ map (marked_node (landing_of fmt s m)) (stale_at w s.nodes)
+  stale_own : (w : ℕ) → w ≤ s.head → stale_nodes_at w own ≡ map (marked_node (landing_of fmt s m)) (stale_nodes_at w s.nodes)
   stale_own w high = filter-unchanged (is_stale w) (landing_of fmt s m) s.nodes (All-each_element _ (landing_of fmt s m).fresh (λ x has. other_number not_stale w (λ is. omega arith))) (All-each_element _ s.nodes (stale_same w high))
 
   stands_own : (test : Path → Bool) (ns ms : List Named) → ms ≡ map (marked_node (landing_of fmt s m)) ns → StandAt test ns → StandAt test ms
@@ -77,12 +77,12 @@ module _ (fmt : Format) (s : Standing) (m : Map) (sound : IsSound fmt s) (keys :
   old_version w low high =
       let v = sound.versions w low high in
       record {
-        one_leaf = subst (λ es. IsDistinct same_key (map (λ (e : List ℕ × List ℕ). e.0) es)) (sym (ap leaf_entries (alive_own w high) ∙ leaf_entries-marked (landing_of fmt s m) (alive_at w s.nodes))) v.one_leaf;
-        nodes = All-each_element _ (alive_at w own) (λ n has.
-            let k = map-which (marked_node (landing_of fmt s m)) (alive_at w s.nodes) n (subst (λ ns. Contains ns n) (alive_own w high) has) in
+        one_leaf = subst (λ es. IsDistinct same_key (map (λ (e : List ℕ × List ℕ). e.0) es)) (sym (ap leaf_entries (alive_own w high) ∙ leaf_entries-marked (landing_of fmt s m) (alive_nodes_at w s.nodes))) v.one_leaf;
+        nodes = All-each_element _ (alive_nodes_at w own) (λ n has.
+            let k = map-which (marked_node (landing_of fmt s m)) (alive_nodes_at w s.nodes) n (subst (λ ns. Contains ns n) (alive_own w high) has) in
             let at : k.0.0.path ≡ n.0.path = ap (λ z. z.path) (sym (marked-name (landing_of fmt s m) k.0)) ∙ ap (λ (z : Named). z.0.path) k.2 in
             sym (ap (λ (z : Named). z.1) k.2) ∙ marked-node (landing_of fmt s m) k.0
-            ∙ All-of _ (alive_at w s.nodes) k.0 v.nodes k.1
+            ∙ All-of _ (alive_nodes_at w s.nodes) k.0 v.nodes k.1
             ∙ ap (λ p. plain_node (is_counted fmt) (λ i. version_at w s.nodes (p ++ i ∷ [])) (length p) (under 0 p (entries (map_at w s.nodes)))) at
             ∙ sym (plain_node-same (is_counted fmt) (λ i. version_at w own (n.0.path ++ i ∷ [])) (λ i. version_at w s.nodes (n.0.path ++ i ∷ [])) (length n.0.path) (under 0 n.0.path (entries (map_at w s.nodes))) (λ i some. version_own w (n.0.path ++ i ∷ []) high))
             ∙ ap (λ mm. plain_node (is_counted fmt) (λ i. version_at w own (n.0.path ++ i ∷ [])) (length n.0.path) (under 0 n.0.path (entries mm))) (sym (map_own w high)));
@@ -96,11 +96,11 @@ module _ (fmt : Format) (s : Standing) (m : Map) (sound : IsSound fmt s) (keys :
       let before = map_own (w - 1) (omega arith) in
       let here = map_own w high in
       record {
-        fresh = subst (λ a. StandAt (is_fresh (entries a) (entries (map_at w own))) (written_at w own)) (sym before) (subst (λ b. StandAt (is_fresh (entries (map_at (w - 1) s.nodes)) (entries b)) (written_at w own)) (sym here) (stands_own _ (written_at w s.nodes) (written_at w own) (written_own w high) step.fresh));
-        stale = subst (λ a. StandAt (is_fresh (entries (map_at w own)) (entries a)) (stale_at w own)) (sym before) (subst (λ b. StandAt (is_fresh (entries b) (entries (map_at (w - 1) s.nodes))) (stale_at w own)) (sym here) (stands_own _ (stale_at w s.nodes) (stale_at w own) (stale_own w high) step.stale));
-        stood = All-each_element _ (stale_at w own) (λ n has.
-            let k = map-which (marked_node (landing_of fmt s m)) (stale_at w s.nodes) n (subst (λ ns. Contains ns n) (stale_own w high) has) in
-            let stood = All-of _ (stale_at w s.nodes) k.0 step.stood k.1 in
+        fresh = subst (λ a. StandAt (is_fresh (entries a) (entries (map_at w own))) (written_nodes_at w own)) (sym before) (subst (λ b. StandAt (is_fresh (entries (map_at (w - 1) s.nodes)) (entries b)) (written_nodes_at w own)) (sym here) (stands_own _ (written_nodes_at w s.nodes) (written_nodes_at w own) (written_own w high) step.fresh));
+        stale = subst (λ a. StandAt (is_fresh (entries (map_at w own)) (entries a)) (stale_nodes_at w own)) (sym before) (subst (λ b. StandAt (is_fresh (entries b) (entries (map_at (w - 1) s.nodes))) (stale_nodes_at w own)) (sym here) (stands_own _ (stale_nodes_at w s.nodes) (stale_nodes_at w own) (stale_own w high) step.stale));
+        stood = All-each_element _ (stale_nodes_at w own) (λ n has.
+            let k = map-which (marked_node (landing_of fmt s m)) (stale_nodes_at w s.nodes) n (subst (λ ns. Contains ns n) (stale_own w high) has) in
+            let stood = All-of _ (stale_nodes_at w s.nodes) k.0 step.stood k.1 in
             let same = All-of _ s.nodes k.0 (still fmt s m sound keys own_keys last (w - 1) (omega arith)) (filter-Contains (is_stale w) s.nodes k.0 k.1) in
             ap (is_alive (w - 1)) (sym k.2) ∙ same ∙ stood);
       }
@@ -112,9 +112,9 @@ module _ (fmt : Format) (s : Standing) (m : Map) (sound : IsSound fmt s) (keys :
   new_version : len m ≤ 2 ^ 63 → IsVersion fmt own (s.head + 1) (slice_index_or (root m ∷ s.roots) (s.head + 1 - (s.head + 1)) [])
   new_version room = record {
     one_leaf = apart-placed fmt s m sound keys own_keys last;
-    nodes = All-each_element _ (alive_at (s.head + 1) own) (λ n has.
+    nodes = All-each_element _ (alive_nodes_at (s.head + 1) own) (λ n has.
         let p = n.0.path in
-        let node = test_so _ _ (placed fmt s m sound keys own_keys last p) (count-some (is_at p) (alive_at (s.head + 1) own) n has (at-so p n refl)) in
+        let node = test_so _ _ (placed fmt s m sound keys own_keys last p) (count-some (is_at p) (alive_nodes_at (s.head + 1) own) n has (at-so p n refl)) in
         contents fmt s m sound keys own_keys last n has
         ∙ sym (plain_node-same (is_counted fmt) (λ i. version_at (s.head + 1) own (p ++ i ∷ [])) (λ i. version_after s m (p ++ i ∷ [])) (length p) (under 0 p (entries m)) (λ i some. version-placed fmt s m sound keys own_keys last (p ++ i ∷ []) (child-node (entries m) p i node some)))
         ∙ ap (λ mm. plain_node (is_counted fmt) (λ i. version_at (s.head + 1) own (p ++ i ∷ [])) (length p) (under 0 p (entries mm))) (sym map_new));
@@ -127,9 +127,9 @@ module _ (fmt : Format) (s : Standing) (m : Map) (sound : IsSound fmt s) (keys :
 
   new_step : IsStep own (s.head + 1)
   new_step = record {
-    fresh = subst (λ a. StandAt (is_fresh (entries a) (entries (map_at (s.head + 1) own))) (written_at (s.head + 1) own)) (sym map_before) (subst (λ b. StandAt (is_fresh (entries (head_map s)) (entries b)) (written_at (s.head + 1) own)) (sym map_new) (placed-fresh fmt s m sound keys own_keys last));
-    stale = subst (λ a. StandAt (is_fresh (entries (map_at (s.head + 1) own)) (entries a)) (stale_at (s.head + 1) own)) (sym map_before) (subst (λ b. StandAt (is_fresh (entries b) (entries (head_map s))) (stale_at (s.head + 1) own)) (sym map_new) (placed-stale fmt s m sound keys own_keys last));
-    stood = All-each_element _ (stale_at (s.head + 1) own) (λ n has.
+    fresh = subst (λ a. StandAt (is_fresh (entries a) (entries (map_at (s.head + 1) own))) (written_nodes_at (s.head + 1) own)) (sym map_before) (subst (λ b. StandAt (is_fresh (entries (head_map s)) (entries b)) (written_nodes_at (s.head + 1) own)) (sym map_new) (placed-fresh fmt s m sound keys own_keys last));
+    stale = subst (λ a. StandAt (is_fresh (entries (map_at (s.head + 1) own)) (entries a)) (stale_nodes_at (s.head + 1) own)) (sym map_before) (subst (λ b. StandAt (is_fresh (entries b) (entries (head_map s))) (stale_nodes_at (s.head + 1) own)) (sym map_new) (placed-stale fmt s m sound keys own_keys last));
+    stood = All-each_element _ (stale_nodes_at (s.head + 1) own) (λ n has.
         let at = number_tells n.2 (s.head + 1) (filter-passes (is_stale (s.head + 1)) own n has) in
         nodes_after_commit-cases (landing_of fmt s m) s.nodes n (filter-Contains (is_stale (s.head + 1)) own n has)
         (λ k stood same. alive-so (s.head + 1 - 1) n (let low = version-low fmt s sound k stood in let v = ap (λ z. z.version) (sym (marked-name (landing_of fmt s m) k) ∙ ap (λ (z : Named). z.0) same) in omega arith) (omega arith))
@@ -143,7 +143,7 @@ module _ (fmt : Format) (s : Standing) (m : Map) (sound : IsSound fmt s) (keys :
     floor_low = let low = sound.floor_low in omega arith;
     head_last = last;
     root_each = let each = sound.root_each in let low = sound.floor_low in let base = sound.base_low in omega arith;
-    floor_nodes = subst (λ mm. StandAt (λ p. is_node 0 p (entries mm)) (alive_at s.floor own)) (sym (map_own s.floor sound.floor_low)) (stands_own _ (alive_at s.floor s.nodes) (alive_at s.floor own) (alive_own s.floor sound.floor_low) sound.floor_nodes);
+    floor_nodes = subst (λ mm. StandAt (λ p. is_node 0 p (entries mm)) (alive_nodes_at s.floor own)) (sym (map_own s.floor sound.floor_low)) (stands_own _ (alive_nodes_at s.floor s.nodes) (alive_nodes_at s.floor own) (alive_own s.floor sound.floor_low) sound.floor_nodes);
     floor_root = version_own s.floor [] sound.floor_low ∙ sound.floor_root;
     versions = λ w low high. elim (cases_lt s.head w) [
       | inl new ↦ subst (λ v. IsVersion fmt own v (slice_index_or (root m ∷ s.roots) (s.head + 1 - v) [])) (let e : s.head + 1 ≡ w = omega arith in e) (new_version room)

@@ -9,7 +9,7 @@ use Rattle.jf_path.proofs.ListLaws.{Contains-first, Contains-later, All-of}
 use Rattle.jf_path.proofs.FilterLaws.{filter-Contains}
 use Rattle.jf_hash.specs.Maps.{Map, IsMap}
 use Rattle.jf_hash.proofs.KeyOrder.{same_key-exact}
-use Rattle.jf_standing.specs.Named.{Named, leaf_entry, leaf_entries, is_alive, alive_at, AreEntries, map_at}
+use Rattle.jf_standing.specs.Named.{Named, leaf_entry, leaf_entries, is_alive, alive_nodes_at, AreEntries, map_at}
 use Rattle.jf_standing.proofs.Lists.{Contains-cases, none_in_nothing, All-each_element}
 use Rattle.jf_standing.proofs.Ordered.{find-Contains, Contains-find}
 
@@ -44,6 +44,6 @@ from_entries-Contains es e has =
 -- the map at a version has keys and values if the leaves have
 pub IsMap-map_at : (w : ℕ) (ns : List Named) → AreEntries (leaf_entries ns) → IsMap (map_at w ns)
 unfolding map_at
-IsMap-map_at w ns sound = All-each_element _ (entries (from_entries (leaf_entries (alive_at w ns)))) (λ e has.
-    let n = leaf-which (alive_at w ns) e (from_entries-Contains (leaf_entries (alive_at w ns)) e has) in
+IsMap-map_at w ns sound = All-each_element _ (entries (from_entries (leaf_entries (alive_nodes_at w ns)))) (λ e has.
+    let n = leaf-which (alive_nodes_at w ns) e (from_entries-Contains (leaf_entries (alive_nodes_at w ns)) e has) in
     All-of (λ f. IsKey f.0 × IsBytes f.1) (leaf_entries ns) e sound (leaf-so ns n.0 e (filter-Contains (is_alive w) ns n.0 n.1) n.2))

@@ -11,7 +11,7 @@ use Rattle.jf_path.proofs.ListLaws.{Contains-map}
 use Rattle.jf_path.proofs.FilterLaws.{filter-map, filter-same}
 use Rattle.jf_model.specs.Nodes.{Path}
 use Rattle.jf_payload.specs.declared.records.Commit.{Commit}
-use Rattle.jf_standing.specs.Named.{Named, is_alive, is_written, leaf_entry, leaf_entries, is_at, alive_at, map_at, version_at}
+use Rattle.jf_standing.specs.Named.{Named, is_alive, is_written, leaf_entry, leaf_entries, is_at, alive_nodes_at, map_at, version_at}
 use Rattle.jf_standing.specs.Standing.{is_named, marked_node, unmarked_node}
 use Rattle.jf_standing.proofs.Sinces.{alive-tells, alive-so, alive-not_yet}
 
@@ -87,13 +87,13 @@ at-marked c p ns = filter-map (is_at p) (marked_node c) ns ∙ ap (map (marked_n
     names (n ∷ ns) = (ap (λ x. is_at p (x, n.1, 0)) (marked-name c n), names ns)
 
 -- if marks change no node's being alive at an earlier version, that version is unchanged
-pub alive-nodes_after_commit : (c : Commit) (w : ℕ) (ns : List Named) → w < c.version → AllByRecursion (λ x. x.0.version ≡ c.version) c.fresh → AllByRecursion (λ n. is_alive w (marked_node c n) ≡ is_alive w n) ns → alive_at w (nodes_after_commit c ns) ≡ map (marked_node c) (alive_at w ns)
+pub alive-nodes_after_commit : (c : Commit) (w : ℕ) (ns : List Named) → w < c.version → AllByRecursion (λ x. x.0.version ≡ c.version) c.fresh → AllByRecursion (λ n. is_alive w (marked_node c n) ≡ is_alive w n) ns → alive_nodes_at w (nodes_after_commit c ns) ≡ map (marked_node c) (alive_nodes_at w ns)
 alive-nodes_after_commit c w ns low own same = filter-unchanged (is_alive w) c ns (none_alive c w c.fresh low own) same
 
 pub map-nodes_after_commit : (c : Commit) (w : ℕ) (ns : List Named) → w < c.version → AllByRecursion (λ x. x.0.version ≡ c.version) c.fresh → AllByRecursion (λ n. is_alive w (marked_node c n) ≡ is_alive w n) ns → map_at w (nodes_after_commit c ns) ≡ map_at w ns
 unfolding map_at
-map-nodes_after_commit c w ns low own same = ap from_entries (ap leaf_entries (alive-nodes_after_commit c w ns low own same) ∙ leaf_entries-marked c (alive_at w ns))
+map-nodes_after_commit c w ns low own same = ap from_entries (ap leaf_entries (alive-nodes_after_commit c w ns low own same) ∙ leaf_entries-marked c (alive_nodes_at w ns))
 
 pub version-nodes_after_commit : (c : Commit) (w : ℕ) (ns : List Named) (p : Path) → w < c.version → AllByRecursion (λ x. x.0.version ≡ c.version) c.fresh → AllByRecursion (λ n. is_alive w (marked_node c n) ≡ is_alive w n) ns → version_at w (nodes_after_commit c ns) p ≡ version_at w ns p
 version-nodes_after_commit c w ns p low own same =
-    ap (λ xs. slice_index_or xs 0 0) (ap (λ xs. map (λ (n : Named). n.0.version) (filter (is_at p) xs)) (alive-nodes_after_commit c w ns low own same) ∙ ap (map (λ (n : Named). n.0.version)) (at-marked c p (alive_at w ns)) ∙ versions-marked c (filter (is_at p) (alive_at w ns)))
+    ap (λ xs. slice_index_or xs 0 0) (ap (λ xs. map (λ (n : Named). n.0.version) (filter (is_at p) xs)) (alive-nodes_after_commit c w ns low own same) ∙ ap (map (λ (n : Named). n.0.version)) (at-marked c p (alive_nodes_at w ns)) ∙ versions-marked c (filter (is_at p) (alive_nodes_at w ns)))

@@ -7,7 +7,7 @@ use Rattle.jf_path.proofs.ListLaws.{All-of}
 use Rattle.jf_path.proofs.NumberLaws.{same_number, number_tells}
 use Rattle.jf_model.specs.Nodes.{Path, is_node, is_fresh, under, plain_node}
 use Rattle.jf_codec.specs.declared.format.Format.{Format}
-use Rattle.jf_standing.specs.Named.{is_alive, is_written, is_at, written_at, version_at, map_at, Named, is_stale, alive_at, stale_at}
+use Rattle.jf_standing.specs.Named.{is_alive, is_written, is_at, written_nodes_at, version_at, map_at, Named, is_stale, alive_nodes_at, stale_nodes_at}
 use Rattle.jf_standing.specs.Standing.{Standing}
 use Rattle.jf_standing.specs.Sound.{IsSound, is_counted}
 use Rattle.jf_standing.proofs.Lists.{one-true}
@@ -29,7 +29,7 @@ version-step fmt s sound w late high p node =
     let few_before = few-alive fmt s sound (w - 1) (omega arith) (omega arith) p in
     elim (is_fresh (entries (map_at (w - 1) s.nodes)) (entries (map_at w s.nodes)) p) as (λ b. is_fresh (entries (map_at (w - 1) s.nodes)) (entries (map_at w s.nodes)) p ≡ b → version_at w s.nodes p ≡ cond b w (version_at (w - 1) s.nodes p)) [
       | true ↦ λ is.
-          let n = count-which (is_at p) (written_at w s.nodes) (omega (arith, step.fresh p, one-true _ is)) in
+          let n = count-which (is_at p) (written_nodes_at w s.nodes) (omega (arith, step.fresh p, one-true _ is)) in
           let stood = filter-Contains (is_written w) s.nodes n.0 n.1 in
           let at = number_tells n.0.0.version w (filter-passes (is_written w) s.nodes n.0 n.1) in
           version-of w s.nodes p n.0 few (Contains-filter (is_alive w) s.nodes n.0 stood (alive-so w n.0 (omega arith) (let up = version-before fmt s sound n.0 stood in omega arith))) (at-tells p n.0 n.2) ∙ at
@@ -39,7 +39,7 @@ version-step fmt s sound w late high p node =
           let tells = alive-tells w n.0 (filter-passes (is_alive w) s.nodes n.0 n.1) in
           let earlier : n.0.0.version < w = elim (cases_lt n.0.0.version w) [
             | inl lt ↦ lt
-            | inr ge ↦ absurd (true≢false (sym (test_so _ _ (step.fresh p) (count-some (is_at p) (written_at w s.nodes) n.0 (Contains-filter (is_written w) s.nodes n.0 stood (same_number n.0.0.version w (let low = tells.0 in omega arith))) (at-so p n.0 n.2))) ∙ is))
+            | inr ge ↦ absurd (true≢false (sym (test_so _ _ (step.fresh p) (count-some (is_at p) (written_nodes_at w s.nodes) n.0 (Contains-filter (is_written w) s.nodes n.0 stood (same_number n.0.0.version w (let low = tells.0 in omega arith))) (at-so p n.0 n.2))) ∙ is))
           ] in
           let alive = Contains-filter (is_alive (w - 1)) s.nodes n.0 stood (alive-so (w - 1) n.0 (omega arith) (let up = tells.1 in omega arith)) in
           version-of w s.nodes p n.0 few n.1 n.2 ∙ sym (version-of (w - 1) s.nodes p n.0 few_before alive n.2)
@@ -72,11 +72,11 @@ stale_alike : (fmt : Format) (t : Standing) → IsSound fmt t → (k : Named) �
 stale_alike fmt t sound k has x late high written up is =
     let step = sound.steps x late high in
     let p = k.0.path in
-    let z = count-which (is_at p) (stale_at x t.nodes) (omega (arith, step.stale p, one-true _ is)) in
+    let z = count-which (is_at p) (stale_nodes_at x t.nodes) (omega (arith, step.stale p, one-true _ is)) in
     let stood = filter-Contains (is_stale x) t.nodes z.0 z.1 in
     let at = number_tells z.0.2 x (filter-passes (is_stale x) t.nodes z.0 z.1) in
-    let alive = All-of _ (stale_at x t.nodes) z.0 step.stood z.1 in
-    let same = count-one (is_at p) (alive_at (x - 1) t.nodes) k z.0 (few-alive fmt t sound (x - 1) (omega arith) (omega arith) p)
+    let alive = All-of _ (stale_nodes_at x t.nodes) z.0 step.stood z.1 in
+    let same = count-one (is_at p) (alive_nodes_at (x - 1) t.nodes) k z.0 (few-alive fmt t sound (x - 1) (omega arith) (omega arith) p)
     (Contains-filter (is_alive (x - 1)) t.nodes k has (alive-so (x - 1) k (omega arith) (omega arith))) (Contains-filter (is_alive (x - 1)) t.nodes z.0 stood alive) (at-so p k refl) z.2 in
     ap (λ (n : Named). n.2) same ∙ at
 
@@ -84,12 +84,12 @@ module _ (fmt : Format) (s t : Standing) (s_sound : IsSound fmt s) (t_sound : Is
     (same_maps : (w : ℕ) → s.floor ≤ w → w ≤ s.head → map_at w t.nodes ≡ map_at w s.nodes)
     (same_versions : (p : Path) → is_node 0 p (entries (map_at s.floor s.nodes)) ≡ true → version_at s.floor t.nodes p ≡ version_at s.floor s.nodes p) where
   -- the node of the other standing with the same name and content
-  twin : (n : Named) → Contains s.nodes n → (w : ℕ) → s.floor ≤ w → w ≤ s.head → is_alive w n ≡ true → (k : Named) × Contains (alive_at w t.nodes) k × (k.0 ≡ n.0) × (k.1 ≡ n.1)
+  twin : (n : Named) → Contains s.nodes n → (w : ℕ) → s.floor ≤ w → w ≤ s.head → is_alive w n ≡ true → (k : Named) × Contains (alive_nodes_at w t.nodes) k × (k.0 ≡ n.0) × (k.1 ≡ n.1)
   twin n has w low high alive =
       let p = n.0.path in
       let here = same_maps w low high in
       let n_in = Contains-filter (is_alive w) s.nodes n has alive in
-      let node = test_so _ _ (stands fmt s s_sound w low high p) (count-some (is_at p) (alive_at w s.nodes) n n_in (at-so p n refl)) in
+      let node = test_so _ _ (stands fmt s s_sound w low high p) (count-some (is_at p) (alive_nodes_at w s.nodes) n n_in (at-so p n refl)) in
       let k = alive-there fmt t t_sound w (omega arith) (omega arith) p (ap (λ m. is_node 0 p (entries m)) here ∙ node) in
       let versions = same_version fmt s t s_sound t_sound same_floor same_head same_maps same_versions w low high in
       let v : k.0.0.version ≡ n.0.version =
@@ -97,11 +97,11 @@ module _ (fmt : Format) (s t : Standing) (s_sound : IsSound fmt s) (t_sound : Is
         k.0,
         k.1,
         ap₂ (λ v q. record { version = v; path = q }) v k.2,
-        All-of _ (alive_at w t.nodes) k.0 (t_sound.versions w (omega arith) (omega arith)).nodes k.1
+        All-of _ (alive_nodes_at w t.nodes) k.0 (t_sound.versions w (omega arith) (omega arith)).nodes k.1
             ∙ ap (λ q. plain_node (is_counted fmt) (λ i. version_at w t.nodes (q ++ i ∷ [])) (length q) (under 0 q (entries (map_at w t.nodes)))) k.2
             ∙ ap (λ m. plain_node (is_counted fmt) (λ i. version_at w t.nodes (p ++ i ∷ [])) (length p) (under 0 p (entries m))) here
             ∙ plain_node-same (is_counted fmt) (λ i. version_at w t.nodes (p ++ i ∷ [])) (λ i. version_at w s.nodes (p ++ i ∷ [])) (length p) (under 0 p (entries (map_at w s.nodes))) (λ i some. versions (p ++ i ∷ []) (child-node (entries (map_at w s.nodes)) p i node some))
-            ∙ sym (All-of _ (alive_at w s.nodes) n (s_sound.versions w low high).nodes n_in),
+            ∙ sym (All-of _ (alive_nodes_at w s.nodes) n (s_sound.versions w low high).nodes n_in),
       )
 
   -- both nodes are stale since the same version
@@ -123,7 +123,7 @@ module _ (fmt : Format) (s t : Standing) (s_sound : IsSound fmt s) (t_sound : Is
               let below = late.1 in
               let here = same_maps x (omega arith) below in
               let before = same_maps (x - 1) (omega arith) (omega arith) in
-              let stale : is_fresh (entries (map_at x s.nodes)) (entries (map_at (x - 1) s.nodes)) n.0.path ≡ true = test_so _ _ ((s_sound.steps x above below).stale n.0.path) (count-some (is_at n.0.path) (stale_at x s.nodes) n (Contains-filter (is_stale x) s.nodes n has_n (same_number x x refl)) (at-so n.0.path n refl)) in
+              let stale : is_fresh (entries (map_at x s.nodes)) (entries (map_at (x - 1) s.nodes)) n.0.path ≡ true = test_so _ _ ((s_sound.steps x above below).stale n.0.path) (count-some (is_at n.0.path) (stale_nodes_at x s.nodes) n (Contains-filter (is_stale x) s.nodes n has_n (same_number x x refl)) (at-so n.0.path n refl)) in
               stale_alike fmt t t_sound k has_k x (omega arith) (omega arith) (omega arith) (omega arith) (ap₂ (λ a b. is_fresh (entries a) (entries b) k.0.path) here before ∙ ap (λ q. is_fresh (entries (map_at x s.nodes)) (entries (map_at (x - 1) s.nodes)) q) p ∙ stale)
         ]
         | inr later ↦ elim (cases_lt k.2 n.2) [
@@ -136,7 +136,7 @@ module _ (fmt : Format) (s t : Standing) (s_sound : IsSound fmt s) (t_sound : Is
                 let below = late.1 in
                 let here = same_maps x (omega arith) (omega arith) in
                 let before = same_maps (x - 1) (omega arith) (omega arith) in
-                let stale : is_fresh (entries (map_at x t.nodes)) (entries (map_at (x - 1) t.nodes)) k.0.path ≡ true = test_so _ _ ((t_sound.steps x above below).stale k.0.path) (count-some (is_at k.0.path) (stale_at x t.nodes) k (Contains-filter (is_stale x) t.nodes k has_k (same_number x x refl)) (at-so k.0.path k refl)) in
+                let stale : is_fresh (entries (map_at x t.nodes)) (entries (map_at (x - 1) t.nodes)) k.0.path ≡ true = test_so _ _ ((t_sound.steps x above below).stale k.0.path) (count-some (is_at k.0.path) (stale_nodes_at x t.nodes) k (Contains-filter (is_stale x) t.nodes k has_k (same_number x x refl)) (at-so k.0.path k refl)) in
                 sym (stale_alike fmt s s_sound n has_n x (omega arith) (omega arith) (omega arith) (omega arith) (ap₂ (λ a b. is_fresh (entries a) (entries b) n.0.path) (sym here) (sym before) ∙ ap (λ q. is_fresh (entries (map_at x t.nodes)) (entries (map_at (x - 1) t.nodes)) q) (sym p) ∙ stale))
           ]
         ]

@@ -21,7 +21,7 @@ use Rattle.jf_payload.specs.declared.records.Commit.{Commit}
 use Rattle.jf_walk.proofs.FreshOrder.{sorted-fresh}
 use Rattle.jf_standing.specs.Standing.{Standing, marked_node, unmarked_node, is_named}
 use Rattle.jf_standing.specs.Landing.{written_node, head_map, landing_of}
-use Rattle.jf_standing.specs.Named.{not_stale, Named, is_written, is_at, written_at, is_stale, is_alive, stale_at, alive_at}
+use Rattle.jf_standing.specs.Named.{not_stale, Named, is_written, is_at, written_nodes_at, is_stale, is_alive, stale_nodes_at, alive_nodes_at}
 use Rattle.jf_standing.specs.Sound.{IsSound, StandAt}
 use Rattle.jf_standing.proofs.Lists.{one, All-each_element, one-true}
 use Rattle.jf_standing.proofs.Counts.{count-same, count-some, count-which, count-none, count-append, count-filter, count-map}
@@ -65,7 +65,7 @@ module _ (fmt : Format) (s : Standing) (m : Map) (sound : IsSound fmt s) (keys :
   landing = landing_of fmt s m
 
   -- ---- paths
-  pub placed-fresh : StandAt (is_fresh (entries (head_map s)) (entries m)) (written_at (s.head + 1) (nodes_after_commit landing s.nodes))
+  pub placed-fresh : StandAt (is_fresh (entries (head_map s)) (entries m)) (written_nodes_at (s.head + 1) (nodes_after_commit landing s.nodes))
   placed-fresh p =
       let test : Named → Bool = λ n. is_written (s.head + 1) n && is_at p n in
       let old : count_by test (map (marked_node landing) s.nodes) ≡ 0 = count-map test (marked_node landing) s.nodes ∙ count-none (λ n. test (marked_node landing n)) s.nodes (All-each_element _ s.nodes (λ n has.
@@ -83,7 +83,7 @@ module _ (fmt : Format) (s : Standing) (m : Map) (sound : IsSound fmt s) (keys :
     | false ↦ other_number n.2 (s.head + 1) (elim (All-of _ s.nodes n sound.gone has) [ inl none ↦ (λ is. omega arith) | inr late ↦ (λ is. let up = late.1 in omega arith) ])
   ]
 
-  pub placed-stale : StandAt (is_fresh (entries m) (entries (head_map s))) (stale_at (s.head + 1) (nodes_after_commit landing s.nodes))
+  pub placed-stale : StandAt (is_fresh (entries m) (entries (head_map s))) (stale_nodes_at (s.head + 1) (nodes_after_commit landing s.nodes))
   placed-stale p =
       let test : Named → Bool = λ n. is_stale (s.head + 1) n && is_at p n in
       let gone = is_fresh (entries m) (entries (head_map s)) p in
@@ -122,13 +122,13 @@ module _ (fmt : Format) (s : Standing) (m : Map) (sound : IsSound fmt s) (keys :
   still w low = All-each_element _ s.nodes (λ n has. alive-still fmt s m sound keys w low n has)
 
   -- at the head before, the nodes stand as they did
-  stood_before : StandAt (λ p. is_node 0 p (entries (head_map s))) (alive_at (s.head + 1 - 1) (nodes_after_commit landing s.nodes))
-  stood_before = subst (λ w. StandAt (λ p. is_node 0 p (entries (head_map s))) (alive_at w (nodes_after_commit landing s.nodes))) (let e : s.head ≡ s.head + 1 - 1 = omega arith in e)
+  stood_before : StandAt (λ p. is_node 0 p (entries (head_map s))) (alive_nodes_at (s.head + 1 - 1) (nodes_after_commit landing s.nodes))
+  stood_before = subst (λ w. StandAt (λ p. is_node 0 p (entries (head_map s))) (alive_nodes_at w (nodes_after_commit landing s.nodes))) (let e : s.head ≡ s.head + 1 - 1 = omega arith in e)
       (λ p. ap (count_by (is_at p)) (alive-nodes_after_commit landing s.head s.nodes (omega arith) (fresh-own fmt s m) (still s.head (omega arith)))
-      ∙ count-map (is_at p) (marked_node landing) (alive_at s.head s.nodes)
-      ∙ count-same (λ n. is_at p (marked_node landing n)) (is_at p) (alive_at s.head s.nodes) (All-each_element _ (alive_at s.head s.nodes) (λ n has. ap (λ k. bytes_eq k.path p) (marked-name landing n)))
+      ∙ count-map (is_at p) (marked_node landing) (alive_nodes_at s.head s.nodes)
+      ∙ count-same (λ n. is_at p (marked_node landing n)) (is_at p) (alive_nodes_at s.head s.nodes) (All-each_element _ (alive_nodes_at s.head s.nodes) (λ n has. ap (λ k. bytes_eq k.path p) (marked-name landing n)))
       ∙ stands fmt s sound s.head sound.floor_low (omega arith) p)
 
   -- after the landing the nodes stand as those of the new map
-  pub placed : StandAt (λ p. is_node 0 p (entries m)) (alive_at (s.head + 1) (nodes_after_commit landing s.nodes))
+  pub placed : StandAt (λ p. is_node 0 p (entries m)) (alive_nodes_at (s.head + 1) (nodes_after_commit landing s.nodes))
   placed = step-stands (nodes_after_commit landing s.nodes) (s.head + 1) (entries (head_map s)) (entries m) (omega arith) after_before stood_before placed-fresh placed-stale

@@ -12,7 +12,7 @@ use Rattle.jf_hash.proofs.KeyOrder.{same_key-exact}
 use Rattle.jf_hash.proofs.MapLaws.{value_after, same_map, get-apply-sorted}
 use Rattle.jf_codec.specs.declared.format.Format.{Format}
 use Rattle.jf_payload.specs.declared.records.Commit.{Commit}
-use Rattle.jf_standing.specs.Named.{alive_at, leaf_entries, Named, is_alive, leaf_entry, map_at}
+use Rattle.jf_standing.specs.Named.{alive_nodes_at, leaf_entries, Named, is_alive, leaf_entry, map_at}
 use Rattle.jf_standing.specs.Standing.{Standing, with_commit, is_named, unmarked_node, marked_node}
 use Rattle.jf_standing.specs.Sound.{IsSound}
 use Rattle.jf_standing.specs.Taking.{Continues}
@@ -30,15 +30,15 @@ use Rattle.jf_standing.proofs.Batches.{said-put, said-removal, said-nothing, sor
 
 module _ (fmt : Format) (s : Standing) (c : Commit) (sound : IsSound fmt s) (goes : Continues s c) (behind_sound : IsSound fmt (with_commit c s)) where
   abbrev new_leaves : List (List ℕ × List ℕ)
-  new_leaves = leaf_entries (alive_at c.version (nodes_after_commit c s.nodes))
+  new_leaves = leaf_entries (alive_nodes_at c.version (nodes_after_commit c s.nodes))
 
   abbrev old_leaves : List (List ℕ × List ℕ)
-  old_leaves = leaf_entries (alive_at s.head s.nodes)
+  old_leaves = leaf_entries (alive_nodes_at s.head s.nodes)
 
   -- a leaf after the landing is written by it, or stood before and isn't named
-  leaf_cases : {P : Type 0} (e : List ℕ × List ℕ) → Contains new_leaves e → (Contains (fresh_leaves c) e → P) → ((k : Named) → Contains s.nodes k → is_named k.0 c.stale ≡ false → Contains (alive_at s.head s.nodes) k → leaf_entry k.1 ≡ Some e → P) → P
+  leaf_cases : {P : Type 0} (e : List ℕ × List ℕ) → Contains new_leaves e → (Contains (fresh_leaves c) e → P) → ((k : Named) → Contains s.nodes k → is_named k.0 c.stale ≡ false → Contains (alive_nodes_at s.head s.nodes) k → leaf_entry k.1 ≡ Some e → P) → P
   leaf_cases {P} e has fresh old =
-      let n = leaf-which (alive_at c.version (nodes_after_commit c s.nodes)) e has in
+      let n = leaf-which (alive_nodes_at c.version (nodes_after_commit c s.nodes)) e has in
       let alive = filter-passes (is_alive c.version) (nodes_after_commit c s.nodes) n.0 n.1 in
       nodes_after_commit-cases c s.nodes n.0 (filter-Contains (is_alive c.version) (nodes_after_commit c s.nodes) n.0 n.1)
       (λ k stood same. elim (is_named k.0 c.stale) as (λ b. is_named k.0 c.stale ≡ b → P) [
@@ -58,10 +58,10 @@ module _ (fmt : Format) (s : Standing) (c : Commit) (sound : IsSound fmt s) (goe
       let x = map-which unmarked_node c.fresh n.0 n.1 in
       let v = All-of (λ x. x.0.version ≡ c.version) c.fresh x.0 goes.fresh_own x.1 in
       let alive : is_alive c.version n.0 ≡ true = ap (is_alive c.version) (sym x.2) ∙ alive-so c.version (unmarked_node x.0) (omega arith) behind_sound.head_last in
-      leaf-so (alive_at c.version (nodes_after_commit c s.nodes)) n.0 e (Contains-filter (is_alive c.version) (nodes_after_commit c s.nodes) n.0 (Contains-append_right (map (marked_node c) s.nodes) (map unmarked_node c.fresh) n.0 n.1) alive) n.2
+      leaf-so (alive_nodes_at c.version (nodes_after_commit c s.nodes)) n.0 e (Contains-filter (is_alive c.version) (nodes_after_commit c s.nodes) n.0 (Contains-append_right (map (marked_node c) s.nodes) (map unmarked_node c.fresh) n.0 n.1) alive) n.2
 
   -- a leaf that stood before and isn't named is a leaf after the landing
-  old_there : (k : Named) (e : List ℕ × List ℕ) → Contains (alive_at s.head s.nodes) k → is_named k.0 c.stale ≡ false → leaf_entry k.1 ≡ Some e → Contains new_leaves e
+  old_there : (k : Named) (e : List ℕ × List ℕ) → Contains (alive_nodes_at s.head s.nodes) k → is_named k.0 c.stale ≡ false → leaf_entry k.1 ≡ Some e → Contains new_leaves e
   old_there k e has free is =
       let stood = filter-Contains (is_alive s.head) s.nodes k has in
       let tells = alive-tells s.head k (filter-passes (is_alive s.head) s.nodes k has) in
@@ -69,7 +69,7 @@ module _ (fmt : Format) (s : Standing) (c : Commit) (sound : IsSound fmt s) (goe
       let next = goes.next in
       let last = behind_sound.head_last in
       let up : c.version < k.2 = elim (All-of _ s.nodes k sound.gone stood) [ inl none ↦ omega arith | inr late ↦ absurd (let a = late.1 in let b = tells.1 in omega arith) ] in
-      leaf-so (alive_at c.version (nodes_after_commit c s.nodes)) (marked_node c k) e
+      leaf-so (alive_nodes_at c.version (nodes_after_commit c s.nodes)) (marked_node c k) e
       (Contains-filter (is_alive c.version) (nodes_after_commit c s.nodes) (marked_node c k) (Contains-nodes_after_commit c s.nodes k stood) (ap (is_alive c.version) same ∙ alive-so c.version k (let low = tells.0 in omega arith) up))
       (ap (λ (z : Named). leaf_entry z.1) same ∙ is)
 
@@ -95,18 +95,18 @@ module _ (fmt : Format) (s : Standing) (c : Commit) (sound : IsSound fmt s) (goe
           let named = filter-passes (λ n. is_named n.0 c.stale) s.nodes n.0 n.1 in
           let alive = Contains-filter (is_alive s.head) s.nodes n.0 stood (named_was fmt s c sound goes behind_sound n.0 stood named).0 in
           absent q (λ v there. leaf_cases (q, v) there (not_fresh q v is) (λ k in_s free here leaf.
-          let same = one-leaf (alive_at s.head s.nodes) n.0 k (q, w) (q, v) (sound.versions s.head sound.floor_low (omega arith)).one_leaf alive here n.2 leaf refl in
+          let same = one-leaf (alive_nodes_at s.head s.nodes) n.0 k (q, w) (q, v) (sound.versions s.head sound.floor_low (omega arith)).one_leaf alive here n.2 leaf refl in
           true≢false (sym named ∙ ap (λ (z : Named). is_named z.0 c.stale) same ∙ free)))
           ∙ ap (λ o. value_after o (find key_cmp q old_leaves)) (sym (said-removal q w (fresh_leaves c) (stale_leaves s c) is gone))
       | None ↦ λ stays.
           (elim (find key_cmp q old_leaves) as (λ r. find key_cmp q old_leaves ≡ r → find key_cmp q new_leaves ≡ r) [
             | Some v ↦ λ was.
-                let k = leaf-which (alive_at s.head s.nodes) (q, v) (find-Contains key_cmp nat_list_cmp_total same_key-exact q v old_leaves was) in
+                let k = leaf-which (alive_nodes_at s.head s.nodes) (q, v) (find-Contains key_cmp nat_list_cmp_total same_key-exact q v old_leaves was) in
                 found q v (elim (is_named k.0.0 c.stale) as (λ b. is_named k.0.0 c.stale ≡ b → Contains new_leaves (q, v)) [
                   | true ↦ λ named. absurd (found_some (stale_leaves s c) (q, v) (leaf-so (filter (λ n. is_named n.0 c.stale) s.nodes) k.0 (q, v) (Contains-filter (λ n. is_named n.0 c.stale) s.nodes k.0 (filter-Contains (is_alive s.head) s.nodes k.0 k.1) named) k.2) stays)
                   | false ↦ λ free. old_there k.0 (q, v) k.1 free k.2
                 ] refl)
-            | None ↦ λ was. absent q (λ v there. leaf_cases (q, v) there (not_fresh q v is) (λ k in_s free here leaf. found_some old_leaves (q, v) (leaf-so (alive_at s.head s.nodes) k (q, v) here leaf) was))
+            | None ↦ λ was. absent q (λ v there. leaf_cases (q, v) there (not_fresh q v is) (λ k in_s free here leaf. found_some old_leaves (q, v) (leaf-so (alive_nodes_at s.head s.nodes) k (q, v) here leaf) was))
           ] refl)
           ∙ ap (λ o. value_after o (find key_cmp q old_leaves)) (sym (said-nothing q (fresh_leaves c) (stale_leaves s c) is stays))
     ] refl

@@ -18,7 +18,7 @@ use Rattle.jf_model.specs.Nodes.{Path, under, is_node, is_fresh, plain_node}
 use Rattle.jf_codec.specs.declared.format.Format.{Format}
 use Rattle.jf_path.proofs.ListLaws.{All-of}
 use Rattle.jf_path.proofs.FilterLaws.{Contains-filter, filter-Contains, filter-passes}
-use Rattle.jf_standing.specs.Named.{Named, is_alive, is_written, is_stale, is_at, alive_at, stale_at, version_at, leaf_entries, map_at}
+use Rattle.jf_standing.specs.Named.{Named, is_alive, is_written, is_stale, is_at, alive_nodes_at, stale_nodes_at, version_at, leaf_entries, map_at}
 use Rattle.jf_standing.specs.Standing.{Standing, versions_of, with_nodes}
 use Rattle.jf_standing.specs.Sound.{is_counted, IsVersion, IsStep, IsSound}
 use Rattle.jf_standing.proofs.Lists.{All-each_element}
@@ -52,35 +52,35 @@ no_version : (ns : List Named) → length ns ≡ 0 → slice_index_or (map (λ n
 no_version [] none = refl
 no_version (n ∷ ns) none = absurd (omega (arith, none))
 
-version_none : (w : ℕ) (ns : List Named) (p : Path) → count_by (is_at p) (alive_at w ns) ≡ 0 → version_at w ns p ≡ 0
-version_none w ns p none = no_version (filter (is_at p) (alive_at w ns)) (length-filter (is_at p) (alive_at w ns) ∙ none)
+version_none : (w : ℕ) (ns : List Named) (p : Path) → count_by (is_at p) (alive_nodes_at w ns) ≡ 0 → version_at w ns p ≡ 0
+version_none w ns p none = no_version (filter (is_at p) (alive_nodes_at w ns)) (length-filter (is_at p) (alive_nodes_at w ns) ∙ none)
 
 module _ (fmt : Format) (s : Standing) (ns : List Named) (sound : IsSound fmt s) (moved : IsPermutation s.nodes ns) where
   module _ (w : ℕ) (low : s.floor ≤ w) (high : w ≤ s.head) where
-    few_moved : (p : Path) → count_by (is_at p) (alive_at w ns) ≤ 1
+    few_moved : (p : Path) → count_by (is_at p) (alive_nodes_at w ns) ≤ 1
     few_moved p = omega (arith, few-alive fmt s sound w low high p, count-moved_filter s.nodes ns moved (is_at p) (is_alive w))
 
-    there : (n : Named) → Contains (alive_at w s.nodes) n → Contains (alive_at w ns) n
+    there : (n : Named) → Contains (alive_nodes_at w s.nodes) n → Contains (alive_nodes_at w ns) n
     there n has = moved-there s.nodes ns moved (is_alive w) n has
 
-    back : (n : Named) → Contains (alive_at w ns) n → Contains (alive_at w s.nodes) n
+    back : (n : Named) → Contains (alive_nodes_at w ns) n → Contains (alive_nodes_at w s.nodes) n
     back n has = moved-back s.nodes ns moved (is_alive w) n has
 
-    apart_moved : IsDistinct same_key (map (λ (e : List ℕ × List ℕ). e.0) (leaf_entries (alive_at w ns)))
-    apart_moved = keys_apart (alive_at w ns) few_moved (λ a b e f ha hb is_a is_b same. ap (λ (z : Named). z.0.path) (one-leaf (alive_at w s.nodes) a b e f (sound.versions w low high).one_leaf (back a ha) (back b hb) is_a is_b same))
+    apart_moved : IsDistinct same_key (map (λ (e : List ℕ × List ℕ). e.0) (leaf_entries (alive_nodes_at w ns)))
+    apart_moved = keys_apart (alive_nodes_at w ns) few_moved (λ a b e f ha hb is_a is_b same. ap (λ (z : Named). z.0.path) (one-leaf (alive_nodes_at w s.nodes) a b e f (sound.versions w low high).one_leaf (back a ha) (back b hb) is_a is_b same))
 
-    leaf_there : (e : List ℕ × List ℕ) → Contains (leaf_entries (alive_at w s.nodes)) e → Contains (leaf_entries (alive_at w ns)) e
-    leaf_there e has = let n = leaf-which (alive_at w s.nodes) e has in leaf-so (alive_at w ns) n.0 e (there n.0 n.1) n.2
+    leaf_there : (e : List ℕ × List ℕ) → Contains (leaf_entries (alive_nodes_at w s.nodes)) e → Contains (leaf_entries (alive_nodes_at w ns)) e
+    leaf_there e has = let n = leaf-which (alive_nodes_at w s.nodes) e has in leaf-so (alive_nodes_at w ns) n.0 e (there n.0 n.1) n.2
 
-    leaf_back : (e : List ℕ × List ℕ) → Contains (leaf_entries (alive_at w ns)) e → Contains (leaf_entries (alive_at w s.nodes)) e
-    leaf_back e has = let n = leaf-which (alive_at w ns) e has in leaf-so (alive_at w s.nodes) n.0 e (back n.0 n.1) n.2
+    leaf_back : (e : List ℕ × List ℕ) → Contains (leaf_entries (alive_nodes_at w ns)) e → Contains (leaf_entries (alive_nodes_at w s.nodes)) e
+    leaf_back e has = let n = leaf-which (alive_nodes_at w ns) e has in leaf-so (alive_nodes_at w s.nodes) n.0 e (back n.0 n.1) n.2
 
     -- the map is unchanged
     pub map-moved : map_at w ns ≡ map_at w s.nodes
     unfolding map_at
-    map-moved = same_map (from_entries (leaf_entries (alive_at w ns))) (from_entries (leaf_entries (alive_at w s.nodes))) (λ q.
-        let new = leaf_entries (alive_at w ns) in
-        let old = leaf_entries (alive_at w s.nodes) in
+    map-moved = same_map (from_entries (leaf_entries (alive_nodes_at w ns))) (from_entries (leaf_entries (alive_nodes_at w s.nodes))) (λ q.
+        let new = leaf_entries (alive_nodes_at w ns) in
+        let old = leaf_entries (alive_nodes_at w s.nodes) in
         fin.get-from_entries nat_list_cmp_total new q
         ∙ (elim (find key_cmp q old) as (λ r. find key_cmp q old ≡ r → find key_cmp q new ≡ r) [
           | Some v ↦ λ is. distinct-find new (q, v) apart_moved (leaf_there (q, v) (find-Contains key_cmp nat_list_cmp_total same_key-exact q v old is))
@@ -95,9 +95,9 @@ module _ (fmt : Format) (s : Standing) (ns : List Named) (sound : IsSound fmt s)
     pub version-moved : (p : Path) → version_at w ns p ≡ version_at w s.nodes p
     version-moved p =
         let same = count-moved_filter s.nodes ns moved (is_at p) (is_alive w) in
-        elim (cases_lt 0 (count_by (is_at p) (alive_at w s.nodes))) [
+        elim (cases_lt 0 (count_by (is_at p) (alive_nodes_at w s.nodes))) [
           | inl some ↦
-              let n = count-which (is_at p) (alive_at w s.nodes) some in
+              let n = count-which (is_at p) (alive_nodes_at w s.nodes) some in
               let at = at-tells p n.0 n.2 in
               version-of w ns p n.0 (few_moved p) (there n.0 n.1) at ∙ sym (version-of w s.nodes p n.0 (few-alive fmt s sound w low high p) n.1 at)
           | inr none ↦ version_none w ns p (omega (arith, none, same)) ∙ sym (version_none w s.nodes p (omega (arith, none)))
@@ -108,8 +108,8 @@ module _ (fmt : Format) (s : Standing) (ns : List Named) (sound : IsSound fmt s)
         let v = sound.versions w low high in
         record {
           one_leaf = apart_moved;
-          nodes = All-each_element _ (alive_at w ns) (λ n has.
-              All-of _ (alive_at w s.nodes) n v.nodes (back n has)
+          nodes = All-each_element _ (alive_nodes_at w ns) (λ n has.
+              All-of _ (alive_nodes_at w s.nodes) n v.nodes (back n has)
               ∙ ap (λ (g : ℕ → ℕ). plain_node (is_counted fmt) g (length n.0.path) (under 0 n.0.path (entries (map_at w s.nodes)))) (let e : (λ (i : ℕ). version_at w s.nodes (n.0.path ++ i ∷ [])) ≡ (λ i. version_at w ns (n.0.path ++ i ∷ [])) = λ j i. sym (version-moved (n.0.path ++ i ∷ [])) j in e)
               ∙ ap (λ m. plain_node (is_counted fmt) (λ i. version_at w ns (n.0.path ++ i ∷ [])) (length n.0.path) (under 0 n.0.path (entries m))) (sym map-moved));
           rooted = v.rooted ∙ ap root (sym map-moved);
@@ -124,7 +124,7 @@ module _ (fmt : Format) (s : Standing) (ns : List Named) (sound : IsSound fmt s)
       record {
         fresh = λ p. count-moved_filter s.nodes ns moved (is_at p) (is_written w) ∙ step.fresh p ∙ ap (λ b. cond b 1 0) (sym (ap₂ (λ a b. is_fresh (entries a) (entries b) p) before here));
         stale = λ p. count-moved_filter s.nodes ns moved (is_at p) (is_stale w) ∙ step.stale p ∙ ap (λ b. cond b 1 0) (sym (ap₂ (λ a b. is_fresh (entries b) (entries a) p) before here));
-        stood = All-each_element _ (stale_at w ns) (λ n has. All-of _ (stale_at w s.nodes) n step.stood (moved-back s.nodes ns moved (is_stale w) n has));
+        stood = All-each_element _ (stale_nodes_at w ns) (λ n has. All-of _ (stale_nodes_at w s.nodes) n step.stood (moved-back s.nodes ns moved (is_stale w) n has));
       }
 
   -- a sound standing with its nodes reordered is sound

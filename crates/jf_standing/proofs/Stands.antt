@@ -9,7 +9,7 @@ use Rattle.jf_hash.specs.Slots.{Part}
 use Rattle.jf_model.specs.Nodes.{Path, same_part, under, is_node, is_fresh}
 use Rattle.jf_codec.specs.declared.format.Format.{Format}
 use Rattle.jf_walk.proofs.SameParts.{same_part-exact, same_part-refl}
-use Rattle.jf_standing.specs.Named.{Named, is_alive, is_written, is_stale, is_at, alive_at, written_at, stale_at, map_at}
+use Rattle.jf_standing.specs.Named.{Named, is_alive, is_written, is_stale, is_at, alive_nodes_at, written_nodes_at, stale_nodes_at, map_at}
 use Rattle.jf_standing.specs.Sound.{StandAt, IsSound}
 use Rattle.jf_standing.specs.Standing.{Standing}
 use Rattle.jf_standing.proofs.Lists.{one}
@@ -23,7 +23,7 @@ balance v s w false before some = grind (arith, nat_tests)
 
 -- at each path as many nodes are alive or went stale at w as were alive before or were written at w
 pub step-balance : (ns : List Named) (w : ℕ) (p : Path) → 1 ≤ w → AllByRecursion (λ n. n.0.version < n.2) ns
-    → count_by (is_at p) (alive_at w ns) + count_by (is_at p) (stale_at w ns) ≡ count_by (is_at p) (alive_at (w - 1) ns) + count_by (is_at p) (written_at w ns)
+    → count_by (is_at p) (alive_nodes_at w ns) + count_by (is_at p) (stale_nodes_at w ns) ≡ count_by (is_at p) (alive_nodes_at (w - 1) ns) + count_by (is_at p) (written_nodes_at w ns)
 step-balance ns w p some before =
     ap₂ (λ a b. a + b) (count-filter (is_at p) (is_alive w) ns) (count-filter (is_at p) (is_stale w) ns)
     ∙ count-balance (λ n. is_alive w n && is_at p n) (λ n. is_stale w n && is_at p n) (λ n. is_alive (w - 1) n && is_at p n) (λ n. is_written w n && is_at p n) ns
@@ -55,17 +55,17 @@ path-balance old new (i ∷ p) =
 -- ---- all versions
 -- if the nodes of one map stand, and a step leads to another, then the nodes of that one stand
 pub step-stands : (ns : List Named) (w : ℕ) (old new : Part) → 1 ≤ w → AllByRecursion (λ n. n.0.version < n.2) ns
-    → StandAt (λ p. is_node 0 p old) (alive_at (w - 1) ns) → StandAt (is_fresh old new) (written_at w ns) → StandAt (is_fresh new old) (stale_at w ns)
-    → StandAt (λ p. is_node 0 p new) (alive_at w ns)
+    → StandAt (λ p. is_node 0 p old) (alive_nodes_at (w - 1) ns) → StandAt (is_fresh old new) (written_nodes_at w ns) → StandAt (is_fresh new old) (stale_nodes_at w ns)
+    → StandAt (λ p. is_node 0 p new) (alive_nodes_at w ns)
 step-stands ns w old new some before stood fresh stale p =
     omega (arith, step-balance ns w p some before, path-balance old new p, stood p, fresh p, stale p)
 
-stands_from : (fmt : Format) (s : Standing) → IsSound fmt s → (k w : ℕ) → w ≡ s.floor + k → w ≤ s.head → StandAt (λ p. is_node 0 p (entries (map_at w s.nodes))) (alive_at w s.nodes)
-stands_from fmt s sound zero w at high = subst (λ v. StandAt (λ p. is_node 0 p (entries (map_at v s.nodes))) (alive_at v s.nodes)) (let e : s.floor ≡ w = omega arith in e) sound.floor_nodes
+stands_from : (fmt : Format) (s : Standing) → IsSound fmt s → (k w : ℕ) → w ≡ s.floor + k → w ≤ s.head → StandAt (λ p. is_node 0 p (entries (map_at w s.nodes))) (alive_nodes_at w s.nodes)
+stands_from fmt s sound zero w at high = subst (λ v. StandAt (λ p. is_node 0 p (entries (map_at v s.nodes))) (alive_nodes_at v s.nodes)) (let e : s.floor ≡ w = omega arith in e) sound.floor_nodes
 stands_from fmt s sound (suc k) w at high =
     let step = sound.steps w (omega arith) high in
     step-stands s.nodes w (entries (map_at (w - 1) s.nodes)) (entries (map_at w s.nodes)) (omega arith) (versions-before fmt s sound) (stands_from fmt s sound k (w - 1) (omega arith) (omega arith)) step.fresh step.stale
 
 -- at each version from floor to head the nodes of its map stand
-pub stands : (fmt : Format) (s : Standing) → IsSound fmt s → (w : ℕ) → s.floor ≤ w → w ≤ s.head → StandAt (λ p. is_node 0 p (entries (map_at w s.nodes))) (alive_at w s.nodes)
+pub stands : (fmt : Format) (s : Standing) → IsSound fmt s → (w : ℕ) → s.floor ≤ w → w ≤ s.head → StandAt (λ p. is_node 0 p (entries (map_at w s.nodes))) (alive_nodes_at w s.nodes)
 stands fmt s sound w low high = stands_from fmt s sound (w - s.floor) w (omega arith) high

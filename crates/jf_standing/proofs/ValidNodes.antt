@@ -10,7 +10,7 @@ use Rattle.jf_model.specs.Nodes.{is_node}
 use Rattle.jf_codec.specs.declared.format.Format.{Format}
 use Rattle.jf_codec.specs.Spelling.{IsNode}
 use Rattle.jf_walk.proofs.NodePaths.{IsPath-is_node}
-use Rattle.jf_standing.specs.Named.{Named, is_alive, is_at, alive_at, map_at, version_at, leaf_entries, AreEntries}
+use Rattle.jf_standing.specs.Named.{Named, is_alive, is_at, alive_nodes_at, map_at, version_at, leaf_entries, AreEntries}
 use Rattle.jf_standing.specs.Standing.{Standing}
 use Rattle.jf_standing.specs.Sound.{IsSound, IsNodeOf}
 use Rattle.jf_standing.proofs.Sinces.{alive-so, version-low, version-before}
@@ -42,10 +42,10 @@ module _ (fmt : Format) (s : Standing) (sound : IsSound fmt s) where
       elim (All-of _ s.nodes n sound.gone has) [ inl none ↦ omega arith | inr late ↦ let down = late.1 in omega arith ]
 
   -- a node that is alive stands at a path of the map
-  alive_node : (w : ℕ) → s.floor ≤ w → w ≤ s.head → (n : Named) → Contains (alive_at w s.nodes) n → is_node 0 n.0.path (entries (map_at w s.nodes)) ≡ true
+  alive_node : (w : ℕ) → s.floor ≤ w → w ≤ s.head → (n : Named) → Contains (alive_nodes_at w s.nodes) n → is_node 0 n.0.path (entries (map_at w s.nodes)) ≡ true
   alive_node w low high n has =
-      let some = count-some (is_at n.0.path) (alive_at w s.nodes) n has (at-so n.0.path n refl) in
-      elim (is_node 0 n.0.path (entries (map_at w s.nodes))) as (λ b. count_by (is_at n.0.path) (alive_at w s.nodes) ≡ cond b 1 0 → b ≡ true) [
+      let some = count-some (is_at n.0.path) (alive_nodes_at w s.nodes) n has (at-so n.0.path n refl) in
+      elim (is_node 0 n.0.path (entries (map_at w s.nodes))) as (λ b. count_by (is_at n.0.path) (alive_nodes_at w s.nodes) ≡ cond b 1 0 → b ≡ true) [
         | true ↦ λ counted. refl
         | false ↦ λ counted. absurd (omega (arith, some, counted))
       ] (stands fmt s sound w low high n.0.path)
@@ -57,7 +57,7 @@ module _ (fmt : Format) (s : Standing) (sound : IsSound fmt s) where
       let w = a.0 in
       let p = n.0.path in
       let here = Contains-filter (is_alive w) s.nodes n has a.3 in
-      let is : IsNodeOf fmt w s.nodes n = All-of (IsNodeOf fmt w s.nodes) (alive_at w s.nodes) n (sound.versions w a.1 a.2).nodes here in
+      let is : IsNodeOf fmt w s.nodes n = All-of (IsNodeOf fmt w s.nodes) (alive_nodes_at w s.nodes) n (sound.versions w a.1 a.2).nodes here in
       let room = (sound.versions w a.1 a.2).room in
       let last = sound.head_last in
       let high = a.2 in

@@ -16,7 +16,7 @@ use Rattle.jf_codec.specs.declared.format.Format.{Format}
 use Rattle.jf_codec.specs.Spelling.{IsNode}
 use Rattle.jf_codec.specs.Counted.{uncounted_node}
 use Rattle.jf_payload.specs.declared.records.Commit.{Commit}
-use Rattle.jf_standing.specs.Named.{alive_at, map_at, leaf_entries, AreEntries, not_stale, version_at}
+use Rattle.jf_standing.specs.Named.{alive_nodes_at, map_at, leaf_entries, AreEntries, not_stale, version_at}
 use Rattle.jf_standing.specs.Standing.{Standing, versions_of, with_commit, with_floor}
 use Rattle.jf_standing.specs.Sound.{StandAt, IsNodeOf, IsSound, is_counted}
 use Rattle.jf_standing.specs.Taking.{Continues, TakesCommits}
@@ -28,7 +28,7 @@ use Rattle.jf_standing.specs.Next.{IsReadCommit}
 abbrev pub NodesStand : Type 0
 NodesStand =
     (fmt : Format) (s : Standing) (w : ℕ) → IsSound fmt s → s.floor ≤ w → w ≤ s.head
-    → StandAt (λ p. is_node 0 p (entries (map_at w s.nodes))) (alive_at w s.nodes) × AllByRecursion (IsNodeOf fmt w s.nodes) (alive_at w s.nodes)
+    → StandAt (λ p. is_node 0 p (entries (map_at w s.nodes))) (alive_nodes_at w s.nodes) × AllByRecursion (IsNodeOf fmt w s.nodes) (alive_nodes_at w s.nodes)
 
 -- the versions of a sound standing are sound
 abbrev pub VersionsAreSound : Type 0

@@ -32,16 +32,16 @@ abbrev pub is_stale : ℕ → Named → Bool
 is_stale w n = n.2 == w
 
 -- the nodes alive at w
-abbrev pub alive_at : ℕ → List Named → List Named
-alive_at w ns = filter (is_alive w) ns
+abbrev pub alive_nodes_at : ℕ → List Named → List Named
+alive_nodes_at w ns = filter (is_alive w) ns
 
 -- the nodes written at w
-abbrev pub written_at : ℕ → List Named → List Named
-written_at w ns = filter (is_written w) ns
+abbrev pub written_nodes_at : ℕ → List Named → List Named
+written_nodes_at w ns = filter (is_written w) ns
 
 -- the nodes that went stale at w
-abbrev pub stale_at : ℕ → List Named → List Named
-stale_at w ns = filter (is_stale w) ns
+abbrev pub stale_nodes_at : ℕ → List Named → List Named
+stale_nodes_at w ns = filter (is_stale w) ns
 
 -- whether a node stands at a path
 abbrev pub is_at : Path → Named → Bool
@@ -49,7 +49,7 @@ is_at p n = bytes_eq n.0.path p
 
 -- the version of the node that is alive at w at a path, 0 if no node is
 abbrev pub version_at : ℕ → List Named → Path → ℕ
-version_at w ns p = slice_index_or (map (λ n. n.0.version) (filter (is_at p) (alive_at w ns))) 0 0
+version_at w ns p = slice_index_or (map (λ n. n.0.version) (filter (is_at p) (alive_nodes_at w ns))) 0 0
 
 -- ---- the map at a version
 
@@ -69,4 +69,4 @@ AreEntries es = AllByRecursion (λ e. IsKey e.0 × IsBytes e.1) es
 
 -- the map of the leaves alive at w
 unfoldable pub map_at : ℕ → List Named → Map
-map_at w ns = from_entries (leaf_entries (alive_at w ns))
+map_at w ns = from_entries (leaf_entries (alive_nodes_at w ns))

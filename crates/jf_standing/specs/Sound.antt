@@ -7,7 +7,7 @@ use Rattle.jf_hash.specs.Roots.{root}
 use Rattle.jf_model.specs.Nodes.{Path, under, is_node, is_fresh, plain_node}
 use Rattle.jf_codec.specs.declared.format.Format.{Format}
 use Rattle.jf_codec.specs.declared.format.Format.TheVariants as format
-use Rattle.jf_standing.specs.Named.{Named, not_stale, is_alive, is_at, alive_at, written_at, stale_at, version_at, leaf_entries, map_at}
+use Rattle.jf_standing.specs.Named.{Named, not_stale, is_alive, is_at, alive_nodes_at, written_nodes_at, stale_nodes_at, version_at, leaf_entries, map_at}
 use Rattle.jf_standing.specs.Standing.{Standing}
 
 -- whether internal nodes hold the counts of their children
@@ -25,16 +25,16 @@ IsNodeOf fmt w ns n = n.1 ≡ plain_node (is_counted fmt) (λ i. version_at w ns
 
 -- the nodes alive at w are those of a map of at most 2^63 entries, which has the recorded root; no two leaves have one key
 pub record IsVersion (fmt : Format) (ns : List Named) (w : ℕ) (recorded : List ℕ) : Type 0 where
-  pub one_leaf : IsDistinct same_key (map (λ e. e.0) (leaf_entries (alive_at w ns)))
-  pub nodes : AllByRecursion (IsNodeOf fmt w ns) (alive_at w ns)
+  pub one_leaf : IsDistinct same_key (map (λ e. e.0) (leaf_entries (alive_nodes_at w ns)))
+  pub nodes : AllByRecursion (IsNodeOf fmt w ns) (alive_nodes_at w ns)
   pub rooted : recorded ≡ root (map_at w ns)
   pub room : len (map_at w ns) ≤ 2 ^ 63
 
 -- the nodes written at w are those that a landing on the map before writes; those that went stale at w were alive, and are those that it makes stale
 pub record IsStep (ns : List Named) (w : ℕ) : Type 0 where
-  pub fresh : StandAt (is_fresh (entries (map_at (w - 1) ns)) (entries (map_at w ns))) (written_at w ns)
-  pub stale : StandAt (is_fresh (entries (map_at w ns)) (entries (map_at (w - 1) ns))) (stale_at w ns)
-  pub stood : AllByRecursion (λ n. IsTrue (is_alive (w - 1) n)) (stale_at w ns)
+  pub fresh : StandAt (is_fresh (entries (map_at (w - 1) ns)) (entries (map_at w ns))) (written_nodes_at w ns)
+  pub stale : StandAt (is_fresh (entries (map_at w ns)) (entries (map_at (w - 1) ns))) (stale_nodes_at w ns)
+  pub stood : AllByRecursion (λ n. IsTrue (is_alive (w - 1) n)) (stale_nodes_at w ns)
 
 -- the numbers are in order, with a root for each version from the base on; the nodes alive at the floor are those of a map,
 -- and each later version is a landing on the one before
@@ -43,7 +43,7 @@ pub record IsSound (fmt : Format) (s : Standing) : Type 0 where
   pub floor_low : s.floor ≤ s.head
   pub head_last : s.head < not_stale
   pub root_each : length s.roots ≡ s.head - s.base + 1
-  pub floor_nodes : StandAt (λ p. is_node 0 p (entries (map_at s.floor s.nodes))) (alive_at s.floor s.nodes)
+  pub floor_nodes : StandAt (λ p. is_node 0 p (entries (map_at s.floor s.nodes))) (alive_nodes_at s.floor s.nodes)
   pub floor_root : version_at s.floor s.nodes [] ≡ s.floor
   pub versions : (w : ℕ) → s.floor ≤ w → w ≤ s.head → IsVersion fmt s.nodes w (slice_index_or s.roots (s.head - w) [])
   pub steps : (w : ℕ) → s.floor < w → w ≤ s.head → IsStep s.nodes w

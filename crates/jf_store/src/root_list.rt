@@ -24,7 +24,7 @@ impl Model for RootList {
 impl RootList {
     // The roots of an engine's versions from this one up to the head, in room that was taken for them.
     pub(crate) fn of<D: Disk>(engine: &Engine<D>, first: u64, mut room: Vec<Hash>) -> RootList
-        requires recorded { engine.now.versions.base ≤ first }
+        requires low { engine.now.versions.base ≤ first }
         requires within { first ≤ engine.now.versions.head + 1 }
         requires empty { room.items ≡ [] }
         requires room { engine.now.versions.head + 1 - first ≤ vec_capacity room }

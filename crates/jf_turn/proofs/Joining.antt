@@ -7,7 +7,7 @@ use Rattle.atomic_table.proofs.Lists.{at_longer}
 use Rattle.atomic_table.specs.Seated.{TableId}
 use Rattle.jf_turn.specs.declared.view.Stage.{Stage}
 use Rattle.jf_turn.specs.declared.view.Stage.TheVariants.{Spent, Idle, Opening, Holding}
-use Rattle.jf_turn.specs.Seats.{Carries, taken_at, seat_state, OthersFollow, TurnState, IsMaker, new_seat, SeatState, AreNewSeats}
+use Rattle.jf_turn.specs.Seats.{Carries, held_list, seat_state, OthersFollow, TurnState, IsMaker, new_seat, SeatState, AreNewSeats}
 use Rattle.jf_turn.specs.Lists.{longer, StartsWith, shorter, HasElement}
 use Rattle.jf_turn.specs.declared.view.SeatView.{SeatView}
 use Rattle.jf_turn.specs.Rule.{OwnAreSeen}
@@ -16,14 +16,14 @@ use Rattle.jf_turn.proofs.Lists.{starts_self, within}
 
 module _ {E V : Type 0} where
   -- a seat that holds nothing is idle, and has no slot
-  pub idle_of : (stage : Stage E) (c : List (ℕ × Option V)) → Carries stage c → taken_at stage ≡ None → (stage ≡ Idle) × (c ≡ [])
+  pub idle_of : (stage : Stage E) (c : List (ℕ × Option V)) → Carries stage c → held_list stage ≡ None → (stage ≡ Idle) × (c ≡ [])
   idle_of Spent c carries none = absurd carries
   idle_of Idle c carries none = (refl, carries)
   idle_of Opening c carries none = absurd carries
   idle_of (Holding l) c carries none = absurd (let e : Some l ≡ None = none in cc)
 
   -- a seat that holds a list has the slot, which is empty
-  pub holding_of : (stage : Stage E) (c : List (ℕ × Option V)) (l : List E) → Carries stage c → taken_at stage ≡ Some l → (stage ≡ Holding l) × (c ≡ (0, None) ∷ [])
+  pub holding_of : (stage : Stage E) (c : List (ℕ × Option V)) (l : List E) → Carries stage c → held_list stage ≡ Some l → (stage ≡ Holding l) × (c ≡ (0, None) ∷ [])
   holding_of Spent c l carries some = absurd carries
   holding_of Idle c l carries some = absurd (let e : None ≡ Some l = some in cc)
   holding_of Opening c l carries some = absurd carries
@@ -68,7 +68,7 @@ module _ {E O V : Type 0} where
 module _ {E O : Type 0} where
   -- the maker, which has seen nothing, is shown as a new seat
   pub maker_is_new : (t : TurnState O) (id : TableId) (v : SeatView E O) (n : ℕ) → id ≡ t.id → IsMaker v t.start n → seat_state id v ≡ new_seat t n
-  maker_is_new t id v n same m = λ i. record { turn = same i; start = m.6 i; number = m.2 i; numbers = m.3 i; seen = m.5 i; taken = taken_at (m.0 i) }
+  maker_is_new t id v n same m = λ i. record { turn = same i; start = m.6 i; number = m.2 i; numbers = m.3 i; seen = m.5 i; taken = held_list (m.0 i) }
 
   -- a list of new seats is longer by the next new seat
   pub new_longer : (t : TurnState O) (ss : List (SeatState E O)) (s : SeatState E O) (n m : ℕ) → AreNewSeats t ss n → m ≡ n + length ss → s ≡ new_seat t m → AreNewSeats t (ss ++ s ∷ []) n

@@ -75,15 +75,15 @@ module _ {E O : Type 0} where
 
 -- ---- how a seat's view is shown, and what a seat has out of the turn's slot
 -- the list that a seat holds
-abbrev pub taken_at : {E : Type 0} → Stage E → Option (List E)
-taken_at Spent = None
-taken_at Idle = None
-taken_at Opening = None
-taken_at (Holding l) = Some l
+abbrev pub held_list : {E : Type 0} → Stage E → Option (List E)
+held_list Spent = None
+held_list Idle = None
+held_list Opening = None
+held_list (Holding l) = Some l
 
 -- what clauses see of a view
 abbrev pub seat_state : {E O : Type 0} → TableId → SeatView E O → SeatState E O
-seat_state id v = record { turn = id; start = v.start; number = v.number; numbers = v.numbers; seen = v.seen; taken = taken_at v.stage }
+seat_state id v = record { turn = id; start = v.start; number = v.number; numbers = v.numbers; seen = v.seen; taken = held_list v.stage }
 
 -- what clauses see of the view of a note
 abbrev pub note_state : {E O : Type 0} → TableId → SeatView E O → NoteState E O

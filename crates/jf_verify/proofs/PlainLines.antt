@@ -11,7 +11,7 @@ use Rattle.jf_blocks.specs.Reading.{named_of, claim_of, leaf_line_of, side_of, l
 use Rattle.jf_many_blocks.specs.ManyReading.{named_claim_of, item_of}
 use Rattle.jf_verify.specs.Openings.{opening_of}
 use Rattle.jf_verify.specs.Steps.{Knowledge, StreamState, StreamStep, line_step, text_for_line, after_line, said_to_end, first_stream_state, first_step, keeps, name_turn, claim_turn, leaf_step, side_step, many_claim_turn, many_item_turn}
-use Rattle.jf_verify.specs.Streams.{after_lines, said_all, answers_of}
+use Rattle.jf_verify.specs.Streams.{after_lines, text_for_lines, answers_of}
 use Rattle.jf_verify.specs.Verdicts.{verdicts}
 use Rattle.jf_verify.specs.declared.stage.Stage.{Stage}
 use Rattle.jf_verify.specs.declared.stage.Stage.TheVariants as stage
@@ -86,16 +86,16 @@ said_alike s line = ap (λ (a : StreamStep). a.text) (step_alike s line)
 after_alike : (s : StreamState) (line : List ℕ) → after_line s (plain_for line) ≡ after_line s line
 after_alike s line = ap (λ (a : StreamStep). let next : StreamState = record { at = s.at + 1; known = a.known; stage = a.stage } in next) (step_alike s line)
 
-answers_alike : (s : StreamState) (ls : List (List ℕ)) → said_all s (map plain_for ls) ++ said_to_end (after_lines s (map plain_for ls)) [] ≡ said_all s ls ++ said_to_end (after_lines s ls) []
-unfolding said_all after_lines
+answers_alike : (s : StreamState) (ls : List (List ℕ)) → text_for_lines s (map plain_for ls) ++ said_to_end (after_lines s (map plain_for ls)) [] ≡ text_for_lines s ls ++ said_to_end (after_lines s ls) []
+unfolding text_for_lines after_lines
 answers_alike s [] = refl
 answers_alike s (line ∷ ls) =
     let more = map plain_for ls in
-    ap (λ t. (t ++ said_all (after_line s (plain_for line)) more) ++ said_to_end (after_lines (after_line s (plain_for line)) more) []) (said_alike s line)
-    ∙ ap (λ (n : StreamState). (text_for_line s line ++ said_all n more) ++ said_to_end (after_lines n more) []) (after_alike s line)
-    ∙ append_assoc (text_for_line s line) (said_all (after_line s line) more) (said_to_end (after_lines (after_line s line) more) [])
+    ap (λ t. (t ++ text_for_lines (after_line s (plain_for line)) more) ++ said_to_end (after_lines (after_line s (plain_for line)) more) []) (said_alike s line)
+    ∙ ap (λ (n : StreamState). (text_for_line s line ++ text_for_lines n more) ++ said_to_end (after_lines n more) []) (after_alike s line)
+    ∙ append_assoc (text_for_line s line) (text_for_lines (after_line s line) more) (said_to_end (after_lines (after_line s line) more) [])
     ∙ ap (λ t. text_for_line s line ++ t) (answers_alike (after_line s line) ls)
-    ∙ sym (append_assoc (text_for_line s line) (said_all (after_line s line) ls) (said_to_end (after_lines (after_line s line) ls) []))
+    ∙ sym (append_assoc (text_for_line s line) (text_for_lines (after_line s line) ls) (said_to_end (after_lines (after_line s line) ls) []))
 
 -- an input with the verdicts that these lines get
 pub input_for : List (List ℕ) → List ℕ

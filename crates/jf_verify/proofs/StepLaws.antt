@@ -2,7 +2,7 @@
 use Rattle.std.proofs.Common.{◌≡◌, ℕ, ◌+◌, List, ◌∷◌, ◌++◌, true, refl, ap, ◌∙◌}
 use Rattle.std.proofs.lemmas.List.{append_assoc}
 use Rattle.jf_text.specs.Words.{is_long}
-use Rattle.jf_input.specs.Feeds.{given_of}
+use Rattle.jf_input.specs.Feeds.{front_of_line}
 use Rattle.jf_input.proofs.Given.{given_alike}
 use Rattle.jf_verify.specs.Steps.{Knowledge, StreamState, text_for_line, after_line, said_to_end, line_step, StreamStep}
 use Rattle.jf_verify.specs.declared.stage.Stage.{Stage}
@@ -32,7 +32,7 @@ said_to_end-long s line other ls long too =
     ap (λ a. a.text ++ said_to_end (record { at = s.at + 1; known = a.known; stage = a.stage }) ls) (long-alike s.at s.known s.stage line other long too)
 
 -- the part of a line that is given represents the whole of it
-pub takes-given : (s next : StreamState) (line t : List ℕ) → next ≡ after_line s (given_of line) → t ≡ text_for_line s (given_of line) → (next ≡ after_line s line) × (t ≡ text_for_line s line)
+pub takes-given : (s next : StreamState) (line t : List ℕ) → next ≡ after_line s (front_of_line line) → t ≡ text_for_line s (front_of_line line) → (next ≡ after_line s line) × (t ≡ text_for_line s line)
 takes-given s next line t is said_is =
     let same = given_alike (line_step s.at s.known s.stage) (long-alike s.at s.known s.stage) line in
     (is ∙ ap (λ (a : StreamStep). let x : StreamState = record { at = s.at + 1; known = a.known; stage = a.stage } in x) same, said_is ∙ ap (λ (a : StreamStep). a.text) same)

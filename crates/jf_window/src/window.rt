@@ -47,7 +47,7 @@ impl<K, T: Fits<K>> Window<K, T> {
 
     // Takes the slot if the word is 0, which then becomes 1, and returns the word that was found.
     fn claim(&self, token: &mut Token<Option<T>, WindowView<K>>) -> u64
-        requires rest { token.old.table_id ≡ self.now.id }
+        requires own { token.old.table_id ≡ self.now.id }
         requires away { token.old.me ≡ (newcomer self.now.key, []) }
         ensures rest { token.new.table_id ≡ token.old.table_id }
         ensures hit { result ≡ 0 → (y : T) × (token.new.me ≡ (with_grasp token.old.me.0 Full, (0, Some y) ∷ [])) × T.fits self.now.key y }
@@ -58,7 +58,7 @@ impl<K, T: Fits<K>> Window<K, T> {
 
     // Takes the slot if the word is 0. The word becomes 2, which says that somebody waits.
     fn claim_or_mark(&self, token: &mut Token<Option<T>, WindowView<K>>) -> u64
-        requires rest { token.old.table_id ≡ self.now.id }
+        requires own { token.old.table_id ≡ self.now.id }
         requires away { token.old.me ≡ (newcomer self.now.key, []) }
         ensures rest { token.new.table_id ≡ token.old.table_id }
         ensures hit { result ≡ 0 → (y : T) × (token.new.me ≡ (with_grasp token.old.me.0 Full, (0, Some y) ∷ [])) × T.fits self.now.key y }
@@ -81,7 +81,7 @@ impl<K, T: Fits<K>> Window<K, T> {
 
     // Waits until the token has the slot, and takes the value.
     fn acquire<H: Wait>(&self, rt: &H, token: &mut Token<Option<T>, WindowView<K>>) -> T
-        requires rest { token.old.table_id ≡ self.now.id }
+        requires own { token.old.table_id ≡ self.now.id }
         requires away { token.old.me ≡ (newcomer self.now.key, []) }
         ensures rest { token.new.table_id ≡ token.old.table_id }
         ensures holds { token.new.me ≡ (with_grasp token.old.me.0 Full, (0, None) ∷ []) }

@@ -14,7 +14,7 @@ use Rattle.jf_history.specs.declared.end.End.TheVariants as end
 use Rattle.jf_history.proofs.Steps.{none_answered, one_more_answered}
 use Rattle.jf_generate.specs.Scripts.{max_lines}
 use Rattle.jf_generate.specs.Places.{GivesNext}
-use Rattle.jf_generate.specs.Reports.{Tallied, tally_of, is_refused, written_of}
+use Rattle.jf_generate.specs.Reports.{Tallied, tally_of, is_refused, tally_text}
 use Rattle.jf_session.specs.Taking.{end_of_stop}
 use Rattle.jf_session.specs.declared.stop.Stop.{Stop}
 use Rattle.jf_session.specs.declared.stop.Stop.TheVariants as stop
@@ -169,10 +169,10 @@ module _ (start : Start) (script : List (List ℕ)) (old : Pass) (now : Session)
     writes = writes;
   }
 
-  pub ended_reported : (e : End) → HasReported e (written_of kept) text text' → HasRunScript e start script old now.pass text text'
-  ended_reported end.Done w = ended_whole end.Done (refl, refl) (refl, subst (λ (k : Tallied). text' ≡ option_map (λ x. x ++ written_of k) text) t.kept_is w)
+  pub ended_reported : (e : End) → HasReported e (tally_text kept) text text' → HasRunScript e start script old now.pass text text'
+  ended_reported end.Done w = ended_whole end.Done (refl, refl) (refl, subst (λ (k : Tallied). text' ≡ option_map (λ x. x ++ tally_text k) text) t.kept_is w)
   ended_reported end.ReadFault w = absurd w
-  ended_reported end.WriteFault w = ended_whole end.WriteFault refl (refl, subst (λ (k : Tallied). IsCutShort text text' (written_of k)) t.kept_is w)
+  ended_reported end.WriteFault w = ended_whole end.WriteFault refl (refl, subst (λ (k : Tallied). IsCutShort text text' (tally_text k)) t.kept_is w)
   ended_reported end.DiskFault w = absurd w
   ended_reported end.Broken w = absurd w
   ended_reported end.Memory w = ended_whole end.Memory refl w

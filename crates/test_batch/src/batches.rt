@@ -1,5 +1,5 @@
 // Batches take changes up to their limits, and have them in the order of their keys.
-use crate::words::{AT_THE_LIMIT, ORDERS, SAID, SORTED, Told, Word, key, tells};
+use crate::words::{AT_THE_LIMIT, ListedChange, ORDERS, SAID, SORTED, Word, key, tells};
 use jf_path::Memory;
 use jf_split::{Batch, BatchFault, BatchList};
 use std::alloc::Global;
@@ -42,7 +42,7 @@ fn tells_after(
     alloc: Global,
     batch: &mut Batch,
     words: &[Word],
-    expected: &[Told],
+    expected: &[ListedChange],
 ) -> Result<bool, Fail> {
     say_all(alloc, batch, words)?;
     Ok(tells(alloc, batch, expected)? && batch.len() == 2)
@@ -96,7 +96,7 @@ fn a_copy_is_the_batch_once_more(rt: HostRuntime) -> Result<(), Fail> {
 }
 
 // Batches of one key each, and what each has.
-const LISTED: &[(&[Word], &[Told])] = &[
+const LISTED: &[(&[Word], &[ListedChange])] = &[
     (&[(2, Some(b"x"))], &[(2, Some(b'x'))]),
     (&[(1, Some(b"x"))], &[(1, Some(b'x'))]),
 ];

@@ -1,5 +1,5 @@
 // Changes are gathered in any order, up to the limits of a batch, and are made a batch in the order of their keys.
-use crate::words::{self, AT_THE_LIMIT, ORDERS, SAID, SORTED, Told, Word, key};
+use crate::words::{self, AT_THE_LIMIT, ListedChange, ORDERS, SAID, SORTED, Word, key};
 use jf_path::{Memory, SharedBytes};
 use jf_split::{BatchFault, Pending};
 use std::alloc::Global;
@@ -23,7 +23,7 @@ fn gather_all(alloc: Global, pending: &mut Pending, words: &[Word]) -> Result<()
 }
 
 // Whether the batch of what is pending tells this.
-fn tells(alloc: Global, pending: &Pending, expected: &[Told]) -> Result<bool, Memory> {
+fn tells(alloc: Global, pending: &Pending, expected: &[ListedChange]) -> Result<bool, Memory> {
     let batch = pending.batch(alloc)?;
     words::tells(alloc, &batch, expected)
 }
@@ -51,7 +51,7 @@ fn tells_after(
     alloc: Global,
     pending: &mut Pending,
     words: &[Word],
-    expected: &[Told],
+    expected: &[ListedChange],
 ) -> Result<bool, Fail> {
     gather_all(alloc, pending, words)?;
     Ok(tells(alloc, pending, expected)? && pending.len() == 2)

@@ -17,22 +17,26 @@ pub(crate) fn key(n: u32) -> Key {
 pub(crate) type Word = (u32, Option<&'static [u8]>);
 
 // What a batch has of a key: the key's last byte, and the first byte of its value or `None`.
-pub(crate) type Told = (u8, Option<u8>);
+pub(crate) type ListedChange = (u8, Option<u8>);
 
-fn batch_list(alloc: Global, batch: &Batch) -> Result<Vec<Told>, Memory> {
-    let mut told = Vec::new(alloc);
+fn batch_list(alloc: Global, batch: &Batch) -> Result<Vec<ListedChange>, Memory> {
+    let mut listed = Vec::new(alloc);
     for (key, value) in batch.as_slice() {
         let first = match value {
             Some(bytes) => bytes.as_slice().first().copied(),
             None => None,
         };
-        told.push((key[31], first))?;
+        listed.push((key[31], first))?;
     }
-    Ok(told)
+    Ok(listed)
 }
 
 // Whether a batch tells this.
-pub(crate) fn tells(alloc: Global, batch: &Batch, expected: &[Told]) -> Result<bool, Memory> {
+pub(crate) fn tells(
+    alloc: Global,
+    batch: &Batch,
+    expected: &[ListedChange],
+) -> Result<bool, Memory> {
     Ok(batch_list(alloc, batch)?.as_slice() == expected)
 }
 
@@ -47,10 +51,10 @@ pub(crate) const ORDERS: &[&[Word]] = &[
 ];
 
 // What the batch has after each.
-pub(crate) const SORTED: &[Told] = &[(1, Some(b'x')), (2, None), (3, Some(b'x'))];
+pub(crate) const SORTED: &[ListedChange] = &[(1, Some(b'x')), (2, None), (3, Some(b'x'))];
 
 // Changes made one after another, and what the batch has then.
-pub(crate) const SAID: &[(&[Word], &[Told])] = &[
+pub(crate) const SAID: &[(&[Word], &[ListedChange])] = &[
     (
         &[(1, Some(b"a")), (2, Some(b"b")), (1, Some(b"c")), (2, None)],
         &[(1, Some(b'c')), (2, None)],

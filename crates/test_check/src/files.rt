@@ -206,7 +206,7 @@ fn damaged_files_are_told_of(rt: HostRuntime) -> Result<(), Fail> {
 }
 
 // Whether a disk that shows two files is reported as these are.
-fn is_told_of<H: Threads + Sync>(rt: &H, alloc: Global, row: &Row) -> Result<bool, Fail> {
+fn has_report<H: Threads + Sync>(rt: &H, alloc: Global, row: &Row) -> Result<bool, Fail> {
     let mut sinks = (sink_of(alloc, 500)?, sink_of(alloc, 500)?);
     let of_files = check(rt, alloc, row, &mut sinks.0)?;
     let of_disk = check_seen(rt, alloc, row, &mut sinks.1)?;
@@ -216,10 +216,10 @@ fn is_told_of<H: Threads + Sync>(rt: &H, alloc: Global, row: &Row) -> Result<boo
 #[test]
 fn a_disk_is_told_of_as_its_files(rt: HostRuntime) -> Result<(), Fail> {
     for row in SOUND {
-        assert!(rt; is_told_of(&rt, rt.alloc(), row)?, "of {}", row.2);
+        assert!(rt; has_report(&rt, rt.alloc(), row)?, "of {}", row.2);
     }
     for row in DAMAGED {
-        assert!(rt; is_told_of(&rt, rt.alloc(), row)?, "of {}", row.2);
+        assert!(rt; has_report(&rt, rt.alloc(), row)?, "of {}", row.2);
     }
     Ok(())
 }

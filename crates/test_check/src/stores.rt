@@ -50,7 +50,7 @@ fn found_on<H: Threads + Sync>(
 }
 
 // What a store says of itself, and how many bytes `compact` then writes.
-fn told_by(alloc: Global, store: &mut Store) -> Result<StoreCheck, Fail> {
+fn check_of_store(alloc: Global, store: &mut Store) -> Result<StoreCheck, Fail> {
     let state = store.state();
     let generation = store.compact(alloc)?;
     Ok(StoreCheck::Sound {
@@ -64,7 +64,7 @@ fn are_alike<H: Threads + Sync>(rt: &H, alloc: Global, steps: &[Step]) -> Result
     let mut store = new_store(rt, alloc)?;
     take_each(rt, alloc, &mut store, steps)?;
     let found = found_on(rt, alloc, store.disk())?;
-    Ok(found == Ok(told_by(alloc, &mut store)?))
+    Ok(found == Ok(check_of_store(alloc, &mut store)?))
 }
 
 #[test]

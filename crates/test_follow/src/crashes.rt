@@ -11,8 +11,8 @@ const INPUT: Input = (THREE, 1_000, &[]);
 
 fn is_followed<H: Threads + Sync>(rt: &H, alloc: Global) -> Result<bool, Fail> {
     let came = follow(rt, alloc, new_store(rt, alloc)?, &INPUT, THREE_TOLD)?;
-    let as_told = came.how == Followed::Done && came.landings == 3 && came.is_told;
-    Ok(as_told && has_landed(rt, alloc, came.engine, 3)?)
+    let as_expected = came.how == Followed::Done && came.landings == 3 && came.is_as_expected;
+    Ok(as_expected && has_landed(rt, alloc, came.engine, 3)?)
 }
 
 // Whether the input ends so on a disk of which one call fails, and whether each image from the opening on has the first
@@ -25,7 +25,7 @@ fn stops_well<H: Threads + Sync>(rt: &H, alloc: Global, failing: u64) -> Result<
     let first = engine.disk().moment();
     let came = follow(rt, alloc, Box::new(alloc, engine)?, &INPUT, "")?;
     let landings = came.landings;
-    let mut is_well = came.how == Followed::DiskFault && came.is_told && landings < 3;
+    let mut is_well = came.how == Followed::DiskFault && came.is_as_expected && landings < 3;
     let disk = disk_in(alloc, came.engine)?;
     for moment in first..disk.moment().saturating_add(1) {
         let least = (moment.saturating_sub(first) / 4).min(landings);

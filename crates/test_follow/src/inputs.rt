@@ -51,7 +51,7 @@ pub(crate) struct Came {
     pub(crate) engine: Box<Engine<MemDisk>>,
     pub(crate) how: Followed,
     pub(crate) landings: u64,
-    pub(crate) is_told: bool,
+    pub(crate) is_as_expected: bool,
 }
 
 /// Follows an input over a store.
@@ -86,7 +86,7 @@ pub(crate) fn follow<H: Threads + Sync>(
         engine: Box::new(alloc, engine)?,
         how,
         landings: entries.len(),
-        is_told: sink.text() == text.as_bytes(),
+        is_as_expected: sink.text() == text.as_bytes(),
     })
 }
 

@@ -18,8 +18,10 @@ const FAILING: &[(Input, u64)] = &[
 
 fn stops_there<H: Threads + Sync>(rt: &H, alloc: Global, row: &(Input, u64)) -> Result<bool, Fail> {
     let came = follow(rt, alloc, new_store(rt, alloc)?, &row.0, "")?;
-    let as_told = came.how == Followed::ReadFault && came.landings == row.1 && came.is_told;
-    Ok(as_told && has_landed(rt, alloc, came.engine, row.1)?)
+    let as_expected = came.how == Followed::ReadFault
+        && came.landings == row.1
+        && came.is_as_expected;
+    Ok(as_expected && has_landed(rt, alloc, came.engine, row.1)?)
 }
 
 #[test]

@@ -107,10 +107,10 @@ fn is_followed_twice<H: Threads + Sync>(
     input: &Input,
 ) -> Result<bool, Fail> {
     let once = follow(rt, alloc, new_store(rt, alloc)?, input, FIRST_TOLD)?;
-    let first = once.how == Followed::Done && once.landings == 1 && once.is_told;
+    let first = once.how == Followed::Done && once.landings == 1 && once.is_as_expected;
     let store = reopened_store(rt, alloc, once.engine)?;
     let again = follow(rt, alloc, store, input, FIRST_TOLD)?;
-    Ok(first && again.how == Followed::Done && again.landings == 0 && again.is_told)
+    Ok(first && again.how == Followed::Done && again.landings == 0 && again.is_as_expected)
 }
 
 fn is_refused<H: Threads + Sync>(
@@ -119,8 +119,10 @@ fn is_refused<H: Threads + Sync>(
     row: &(Input, FollowRefused, u64),
 ) -> Result<bool, Fail> {
     let came = follow(rt, alloc, new_store(rt, alloc)?, &row.0, "")?;
-    let as_told = came.how == Followed::Refused(row.1) && came.landings == row.2 && came.is_told;
-    Ok(as_told && has_landed(rt, alloc, came.engine, row.2)?)
+    let as_expected = came.how == Followed::Refused(row.1)
+        && came.landings == row.2
+        && came.is_as_expected;
+    Ok(as_expected && has_landed(rt, alloc, came.engine, row.2)?)
 }
 
 #[test]

@@ -9,17 +9,17 @@ use std::alloc::Global;
 use std::test::Fail;
 
 // A fork, a key, and the value that the fork has there, or why it isn't read.
-type Told = (u64, u8, Result<Option<u8>, ForkFault>);
+type LandCase = (u64, u8, Result<Option<u8>, ForkFault>);
 
 // A number of batches of a landing, a key, and the value there after so many.
 type Version = (usize, u8, Option<u8>);
 
 struct Case {
     forks: &'static [Row],
-    before: &'static [Told],
+    before: &'static [LandCase],
     lands: u64,
     versions: &'static [Version],
-    after: &'static [Told],
+    after: &'static [LandCase],
     live: u64,
 }
 
@@ -129,7 +129,7 @@ fn land(alloc: Global, table: &mut ForkTable, id: u64) -> Result<BatchList, Fork
     Ok(list)
 }
 
-fn tell(table: &ForkTable, expected: &[Told]) -> bool {
+fn tell(table: &ForkTable, expected: &[LandCase]) -> bool {
     for (id, key, byte) in expected {
         if byte_at(table, *id, *key) != *byte {
             return false;
@@ -157,7 +157,7 @@ fn make_versions(alloc: Global, list: &BatchList, expected: &[Version]) -> Resul
     Ok(true)
 }
 
-fn is_as_told(alloc: Global, case: &Case) -> Result<bool, Fail> {
+fn is_as_expected(alloc: Global, case: &Case) -> Result<bool, Fail> {
     let mut table = table_of(alloc, &Snapshot::empty(0), case.forks)?;
     if !tell(&table, case.before) {
         return Ok(false);
@@ -170,7 +170,7 @@ fn is_as_told(alloc: Global, case: &Case) -> Result<bool, Fail> {
 #[test]
 fn a_fork_lands_with_its_ancestors(rt: HostRuntime) -> Result<(), Fail> {
     for case in CASES {
-        assert!(rt; is_as_told(rt.alloc(), case)?);
+        assert!(rt; is_as_expected(rt.alloc(), case)?);
     }
     Ok(())
 }

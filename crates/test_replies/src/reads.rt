@@ -1,6 +1,6 @@
 // Values and roots of the head and of old versions.
 use jf_disk::MemDisk;
-use jf_play::play::{answers, is_told, new_disk};
+use jf_play::play::{answers, is_answered_by, new_disk};
 use jf_play::roots::with_roots;
 use std::alloc::Global;
 use std::sync::Wait;
@@ -56,7 +56,7 @@ const ROWS: &[(&str, &str)] = &[
 fn versions_are_read(rt: HostRuntime) -> Result<(), Fail> {
     let alloc = rt.alloc();
     for (script, want) in ROWS {
-        is_told(&rt, alloc, script, want)?;
+        is_answered_by(&rt, alloc, script, want)?;
     }
     Ok(())
 }

@@ -1,5 +1,5 @@
 // Lines that are refused, each with its reply, and the lines after them.
-use jf_play::play::{is_answered, is_told, tells};
+use jf_play::play::{is_answered, is_answered_by, tells};
 use jf_play::roots::with_roots;
 use std::alloc::Global;
 use std::sync::Wait;
@@ -43,7 +43,7 @@ fn is_told_at_3<H: Threads + Wait + Sync>(
 ) -> Result<(), Fail> {
     let script = format!(in alloc; "commit\ncommit\ncommit\n{line}")?;
     let want = format!(in alloc; "1 ok commit 1 E\n2 ok commit 2 E\n3 ok commit 3 E\n{want}")?;
-    is_told(rt, alloc, script.as_str(), want.as_str())
+    is_answered_by(rt, alloc, script.as_str(), want.as_str())
 }
 
 #[test]

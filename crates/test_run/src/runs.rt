@@ -3,7 +3,9 @@ use jf_disk::{Disk, MemDisk, Side};
 use jf_play::files::{
     CHECKPOINT, END, File, LANDING, LANDING_OF_NOTHING, LANDING_OF_TWO, file_bytes,
 };
-use jf_play::play::{Faults, NO_FAULTS, Played, answers, has_ended, is_told, new_disk, play};
+use jf_play::play::{
+    Faults, NO_FAULTS, Played, answers, has_ended, is_answered_by, new_disk, play,
+};
 use jf_play::roots::with_roots;
 use jf_run::status::Status;
 use std::alloc::Global;
@@ -33,7 +35,7 @@ const LINES: &[(&str, &str)] = &[
 fn lines_are_answered(rt: HostRuntime) -> Result<(), Fail> {
     let alloc = rt.alloc();
     for (script, want) in LINES {
-        is_told(&rt, alloc, script, want)?;
+        is_answered_by(&rt, alloc, script, want)?;
     }
     Ok(())
 }

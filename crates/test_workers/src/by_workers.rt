@@ -122,15 +122,15 @@ pub(crate) const LISTS: u64 = 16;
 
 // Records which pieces of the update it is notified of.
 #[derive(Drop)]
-struct Told {
+struct PieceLog {
     first: AtomicU64,
     second: AtomicU64,
     more: AtomicU64,
 }
 
-impl Told {
-    fn new() -> Told {
-        Told {
+impl PieceLog {
+    fn new() -> PieceLog {
+        PieceLog {
             first: AtomicU64::new(0),
             second: AtomicU64::new(0),
             more: AtomicU64::new(0),
@@ -143,7 +143,7 @@ impl Told {
     }
 }
 
-impl Gate for Told {
+impl Gate for PieceLog {
     fn begin(&self, piece: u64) {
         if piece == 0 {
             self.first.store(1, SeqCst);
@@ -192,11 +192,11 @@ pub(crate) fn version_of<H: Threads + Sync>(
 
 // Whether two workers take the two keys as two pieces, the first with the number 0.
 fn are_two_pieces<H: Threads + Sync>(rt: &H, alloc: Global, before: &[Put]) -> Result<bool, Fail> {
-    let told = Told::new();
+    let log = PieceLog::new();
     let head = version_of(rt, alloc, before)?;
     let batch = batch_of(alloc, TWO)?;
-    let landed = next(rt, alloc, &head, &batch, 2, &told)?;
-    Ok(told.are_two() && landed.snapshot.count() >= 2)
+    let landed = next(rt, alloc, &head, &batch, 2, &log)?;
+    Ok(log.are_two() && landed.snapshot.count() >= 2)
 }
 
 // Over how many of these versions they are two pieces before the first over which they aren't.

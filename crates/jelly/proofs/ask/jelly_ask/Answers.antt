@@ -1,9 +1,9 @@
 use Rattle.std.proofs.Common.{◌∙◌, ap, sym, length, Some, option_map}
-use Rattle.jelly.proofs.ToldClaims.{told_claim-shown, value-shown}
+use Rattle.jelly.proofs.ToldClaims.{claim_of_number-shown, value-shown}
 use Rattle.jelly.proofs.ask.jelly_ask.Goals as goal
 
 pub returns-clause-sound : goal.returns-clause-sound
-returns-clause-sound c m claim is_map top is differs = c.look_up.ensures.sound m claim is_map top (told_claim-shown _ _ _ _ _ _ claim (c.answer.ensures _ c.look_up.ensures.answer) is) differs
+returns-clause-sound c m claim is_map top is differs = c.look_up.ensures.sound m claim is_map top (claim_of_number-shown _ _ _ _ _ _ claim (c.answer.ensures _ c.look_up.ensures.answer) is) differs
 
 pub returns-clause-sound_room : goal.returns-clause-sound_room
 returns-clause-sound_room c m is_map top two differs =

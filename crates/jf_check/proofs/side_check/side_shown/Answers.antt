@@ -5,8 +5,8 @@ use Rattle.jf_frame.specs.Framing.{end_of}
 use Rattle.jf_check.proofs.Ends.{end_within, still_now}
 use Rattle.jf_check.proofs.side_check.side_shown.Goals as goal
 
-pub shown_by-requires : goal.shown_by-requires
-shown_by-requires c =
+pub log_check-requires : goal.log_check-requires
+log_check-requires c =
     let read = c.in-Ok.ensures.read (history_of c.args.disk.now) refl in
     subst (λ xs. end_of c.in-Ok.log.records ≤ length xs - 1) (sym c.bytes.ensures) (end_within _ c.in-Ok.log.records read.held)
 

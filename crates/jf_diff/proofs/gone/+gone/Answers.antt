@@ -3,7 +3,7 @@ use Rattle.std.specs.Option.{option_copied}
 use Rattle.jf_node.specs.Children.{content}
 use Rattle.jf_walk.proofs.WalkLaws.{listed_to, listed_to-none}
 use Rattle.jf_diff.specs.Below.{IsBelow, listed_below}
-use Rattle.jf_diff.specs.Gone.{gone_below}
+use Rattle.jf_diff.specs.Gone.{gone_node_below}
 use Rattle.jf_diff.proofs.Fronts.{front-push, front-through}
 use Rattle.jf_diff.proofs.GoneLaws.{gone_one, gone_child}
 use Rattle.jf_diff.proofs.Walks.{stale_listed, from_node-listed_to, tells_kept, tells_new, stale_child, child_in_entries, child_in_sound, child_entries_none, child_entries_some, listed_to-below, listed_below-child, listed_below-none}
@@ -20,13 +20,13 @@ list_gone-loop-n-init t c =
       listed = λ over.
           c.in_ok-push.ensures.items
           ∙ ap (λ e. c.args.out.now.items ++ e ∷ []) (gone_one c.args.version c.args.path.now x _ _ _ c.version.ensures c.know.ensures.own c.in_ok-plain.ensures refl)
-          ∙ ap (λ l. c.args.out.now.items ++ l) (sym (listed_to-none x.depth (content (option_copied c.args.new)) x.entries (gone_below c.args.version c.args.path.now x)));
+          ∙ ap (λ l. c.args.out.now.items ++ l) (sym (listed_to-none x.depth (content (option_copied c.args.new)) x.entries (gone_node_below c.args.version c.args.path.now x)));
     }
 
 pub list_gone-loop-n-preserved : goal.list_gone-loop-n-preserved
 list_gone-loop-n-preserved t c =
     let x = c.args.old.now in
-    let f = gone_below c.args.version c.args.path.now x in
+    let f = gone_node_below c.args.version c.args.path.now x in
     let ys = content (option_copied c.args.new) in
     record {
       front = front-through c.args.out.now.items c.loop-n.out.items _ c.loop-n.invariant.front c.in_ok-list_gone_at.ensures.front;
@@ -47,7 +47,7 @@ pub list_gone-returns-clause-listed : goal.list_gone-returns-clause-listed
 list_gone-returns-clause-listed t c own below =
     let x = c.args.old.now in
     let ys = content (option_copied c.args.new) in
-    let f = gone_below c.args.version c.args.path.now x in
+    let f = gone_node_below c.args.version c.args.path.now x in
     let e : c.loop-n.n ≡ 16 = omega arith in
     c.loop-n.invariant.listed below ∙ ap (λ k. c.args.out.now.items ++ listed_to x.depth k ys x.entries f) e ∙ ap (λ l. c.args.out.now.items ++ l) (sym (from_node-listed_to x.depth ys x.entries f))
 
@@ -55,7 +55,7 @@ pub list_gone_at-returns-in-None-clause-listed : goal.list_gone_at-returns-in-No
 list_gone_at-returns-in-None-clause-listed t c over =
     let x = c.args.old.now in
     sym (append-nil c.args.out.now.items)
-    ∙ ap (λ l. c.args.out.now.items ++ l) (sym (listed_below-none x.depth c.args.n (content (option_copied c.args.new)) x.entries (gone_below c.args.version c.args.path.now x) (child_entries_none x c.args.n c.args.n c.child_of.result c.child_of.ensures c.in-None.is refl)))
+    ∙ ap (λ l. c.args.out.now.items ++ l) (sym (listed_below-none x.depth c.args.n (content (option_copied c.args.new)) x.entries (gone_node_below c.args.version c.args.path.now x) (child_entries_none x c.args.n c.args.n c.child_of.result c.child_of.ensures c.in-None.is refl)))
 
 pub list_gone_at-returns-in_ok-list_gone-in-Some-clause-listed : goal.list_gone_at-returns-in_ok-list_gone-in-Some-clause-listed
 list_gone_at-returns-in_ok-list_gone-in-Some-clause-listed t c over =
@@ -65,8 +65,8 @@ list_gone_at-returns-in_ok-list_gone-in-Some-clause-listed t c over =
     let old = c.in-Some.child.now in
     let new = option_copied c.child_in.result in
     let below : IsBelow x n (Some old) = child_entries_some x n n c.child_of.result c.in-Some.child c.child_of.ensures c.in-Some.is refl in
-    let f = gone_below c.args.version c.args.path.now x in
-    let g = gone_below c.args.version c.child.result old in
+    let f = gone_node_below c.args.version c.args.path.now x in
+    let g = gone_node_below c.args.version c.child.result old in
     stale_listed c.args.version old new g c.args.out.now.items _ below.sound (child_in_sound y n new c.child_in.ensures) (stale_child c.args.version x y n n old new c.requires.new over below c.child_in.ensures refl)
     c.in_ok-list_gone-in-Some.ensures.kept c.in_ok-list_gone-in-Some.ensures.listed
     ∙ ap (λ l. c.args.out.now.items ++ l) (listed_below-child x.depth n old.depth (content y) (content new) x.entries old.entries f g below.placed.1 (child_in_entries x y n n new c.requires.new c.child_in.ensures refl) below.entries

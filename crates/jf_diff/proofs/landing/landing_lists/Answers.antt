@@ -4,8 +4,8 @@ use Rattle.jf_diff.specs.Tops.{IsStaleUnder}
 use Rattle.jf_diff.proofs.LandingLaws.{stale_top, landed_nodes, landed_names, written_count}
 use Rattle.jf_diff.proofs.landing.landing_lists.Goals as goal
 
-pub written_wide-requires-clause-stale : goal.written_wide-requires-clause-stale
-written_wide-requires-clause-stale g c κs within =
+pub written_wide-requires-clause-landed : goal.written_wide-requires-clause-landed
+written_wide-requires-clause-landed g c κs within =
     let was = option_copied c.top-was.result in
     let top = option_copied c.top-top.result in
     subst (λ v. IsStaleUnder v was top) (sym c.version-version.ensures) (stale_top c.args.old.now c.args.new.now was top c.know.ensures c.top-was.ensures c.top-top.ensures c.requires.next)

@@ -18,7 +18,7 @@ put_together-requires g c =
     }
 
 pub sorted_names-requires : goal.sorted_names-requires
-sorted_names-requires g c = stale_distinct c.args.head (option_copied c.args.old) (content (option_copied c.args.top)) _ (c.in_ok-fresh.ensures.stale c.requires.stale) c.requires.sorted c.requires.old_sorted
+sorted_names-requires g c = stale_distinct c.args.head (option_copied c.args.old) (content (option_copied c.args.top)) _ (c.in_ok-fresh.ensures.stale c.requires.landed) c.requires.sorted c.requires.old_sorted
 
 pub returns-clause-stale : goal.returns-clause-stale
-returns-clause-stale g c = subst (λ ns. IsPermutation ns c.sorted_names.result) (c.in_ok-fresh.ensures.stale c.requires.stale) c.sorted_names.ensures
+returns-clause-stale g c = subst (λ ns. IsPermutation ns c.sorted_names.result) (c.in_ok-fresh.ensures.stale c.requires.landed) c.sorted_names.ensures

@@ -13,7 +13,7 @@ pub encode-requires : goal.encode-requires
 encode-requires c =
     let s = c.args.directory.now in
     let few : length s.nodes < 2 ^ 64 = search rules in
-    let spelled : IsRecord format.Two (checkpoint_of c.args.generation s) = c.checkpoints_are_spelled.ensures format.Two c.args.generation s c.know.ensures.sound c.know.ensures.read.keys c.know.ensures.short c.requires.first c.requires.bounded c.know.ensures.read.hashes few in
+    let spelled : IsRecord format.Two (checkpoint_of c.args.generation s) = c.checkpoints_are_spelled.ensures format.Two c.args.generation s c.know.ensures.sound c.know.ensures.read.keys c.know.ensures.short c.requires.positive c.requires.bounded c.know.ensures.read.hashes few in
     let same = same_checkpoint s c.args.generation c.base.result c.floor.result c.head.result c.in_ok-copy_of.field-0 c.in_ok-live.field-0 c.know.ensures.read c.know.ensures.sound c.base.ensures c.floor.ensures c.head.ensures (c.in_ok-copy_of.ensures ∙ c.roots.ensures) c.in_ok-live.ensures in
     subst (IsRecord format.Two) (sym (checkpoint-kept c.args.generation c.base.result c.floor.result c.head.result c.in_ok-copy_of.field-0 c.in_ok-live.field-0 ∙ same)) spelled
 
@@ -21,7 +21,7 @@ pub returns-clause-spelled : goal.returns-clause-spelled
 returns-clause-spelled c =
     let s = c.args.directory.now in
     let few : length s.nodes < 2 ^ 64 = search rules in
-    let spelled : IsRecord format.Two (checkpoint_of c.args.generation s) = c.checkpoints_are_spelled.ensures format.Two c.args.generation s c.know.ensures.sound c.know.ensures.read.keys c.know.ensures.short c.requires.first c.requires.bounded c.know.ensures.read.hashes few in
+    let spelled : IsRecord format.Two (checkpoint_of c.args.generation s) = c.checkpoints_are_spelled.ensures format.Two c.args.generation s c.know.ensures.sound c.know.ensures.read.keys c.know.ensures.short c.requires.positive c.requires.bounded c.know.ensures.read.hashes few in
     search rules
 
 pub returns-clause-frame : goal.returns-clause-frame

@@ -6,4 +6,4 @@ use Rattle.jf_replay.proofs.Fronts.{rising-filter}
 use Rattle.jf_replay.proofs.landing.landing_in.Goals as goal
 
 pub fresh_list-requires : goal.fresh_list-requires
-fresh_list-requires c = subst (λ ns. IsTrue (are_rising (map (λ (n : Named). n.0) ns))) (sym c.written_in.ensures) (rising-filter (is_written c.args.version) c.args.nodes.now c.requires.sorted)
+fresh_list-requires c = subst (λ ns. IsTrue (are_rising (map (λ (n : Named). n.0) ns))) (sym c.nodes_of_version.ensures) (rising-filter (is_written c.args.version) c.args.nodes.now c.requires.sorted)

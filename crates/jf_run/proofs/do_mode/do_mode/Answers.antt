@@ -141,7 +141,7 @@ pub returns-in-Restore-clause-untouched : goal.returns-in-Restore-clause-untouch
 returns-in-Restore-clause-untouched g c = untouched_as _ _ _ _ _ _ _ c.in-Restore.is (record {
   unread = λ e. absurd (cc);
   unwritten = λ e ends. absurd (cc);
-  occupied = λ e head ends. c.restore_over.ensures.occupied head ends;
+  occupied = λ e head ends. c.restore_over.ensures.untouched head ends;
   outside = λ e least head ends. absurd (cc);
   elsewhere = λ head root ends. absurd (c.restore_over.ensures.here head root ends);
 })

@@ -12,5 +12,5 @@ returns-clause-kept g c = λ workers missing before head begun dated held.
 pub returns-clause-here : goal.returns-clause-here
 returns-clause-here g c = λ head root ends. received_here c.receive-how.result head root (sym (c.of_engine.ensures.status ∙ c.of_received.ensures) ∙ ends)
 
-pub returns-clause-occupied : goal.returns-clause-occupied
-returns-clause-occupied g c = λ head is. c.receive-how.ensures.untouched head (occupied_told c.receive-how.result head (sym (c.of_engine.ensures.status ∙ c.of_received.ensures) ∙ is))
+pub returns-clause-untouched : goal.returns-clause-untouched
+returns-clause-untouched g c = λ head is. c.receive-how.ensures.untouched head (occupied_told c.receive-how.result head (sym (c.of_engine.ensures.status ∙ c.of_received.ensures) ∙ is))

@@ -102,7 +102,7 @@ returns-clause-served g c =
           (subst (λ (es : List Entry). HasServedScripts (status_of_served r.ends report) s old d scripts es served.attempt text text' faults faults') (sym out.entries)
           (served_scripts e r.engine start scripts r.outputs r.ends r.entries d report text text' faults faults' (length c.args.scripts.now) c.in-Ok.ensures.start served out.resting
           (subst (λ (t : List ℕ). OnOk report (Appends text text' t)) said c.write_served-report.ensures.ok)
-          (subst (λ (t : List ℕ). OnErr report (IsCutShort text text' t)) said c.write_served-report.ensures.front)
+          (subst (λ (t : List ℕ). OnErr report (IsCutShort text text' t)) said c.write_served-report.ensures.cut_short)
           c.write_served-report.ensures.cause))),
     )
 

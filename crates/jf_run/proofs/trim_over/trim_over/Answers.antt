@@ -20,7 +20,7 @@ returns-clause-kept g c = λ rest source_faults missing before head begun dated 
           subst (λ k. IsTold c.trim.result c.match-trim.status (text old) (text k) (faults old) (faults k)) (sym w.sink-is)
           (subst (λ s. IsTold c.trim.result s (text old) (text w.tell_trimmed-status.new.sink) (faults old) (faults w.tell_trimmed-status.new.sink)) (sym w.status-is)
           (subst (λ how. IsTold how w.tell_trimmed-status.result (text old) (text w.tell_trimmed-status.new.sink) (faults old) (faults w.tell_trimmed-status.new.sink)) (sym w.in-Ok.is)
-          (line_told w.in-Ok.trimmed w.tell_trimmed-status.result (text old) (text w.tell_trimmed-status.new.sink) (faults old) (faults w.tell_trimmed-status.new.sink) told.written (λ e. ap faults (told.silent e)) told.cause told.counts)))
+          (line_told w.in-Ok.trimmed w.tell_trimmed-status.result (text old) (text w.tell_trimmed-status.new.sink) (faults old) (faults w.tell_trimmed-status.new.sink) told.written (λ e. ap faults (told.unwritten e)) told.cause told.counts)))
       | in-Err w ↦ subst (λ k. IsTold c.trim.result c.match-trim.status (text old) (text k) (faults old) (faults k)) (sym w.sink-is)
           (subst (λ s. IsTold c.trim.result s (text old) (text old) (faults old) (faults old)) (sym (w.status-is ∙ w.of_refusal-status.ensures ∙ ap status_of_refusal w.from.ensures))
           (subst (λ how. IsTold how (status_of_refusal (of_pair w.in-Err.why)) (text old) (text old) (faults old) (faults old)) (sym w.in-Err.is) (untrimmed_told w.in-Err.why (text old) (faults old))))
@@ -31,7 +31,7 @@ returns-clause-kept g c = λ rest source_faults missing before head begun dated 
     done.told (λ h told. t.kept h (same.history ∙ told)) (λ h told. t.trimmed h (same.history ∙ told)) (λ h side at told. t.damaged h side at (same.history ∙ told))
     (λ h why told. t.err h why (same.history ∙ told)) (subst (λ m. OnOk c.trim.result (g.D.Disk.faults c.trim.new.disk ≡ m)) same.faults t.calm)
     (record {
-      untold = λ none. t.calls.untold (same.history ∙ none);
+      unknown = λ none. t.calls.unknown (same.history ∙ none);
       later = subst (λ m. m ≤ g.D.Disk.moment c.trim.new.disk) same.moment t.calls.later;
       counted = subst (λ m. m ≤ g.D.Disk.faults c.trim.new.disk) same.faults t.calls.counted;
       cause = λ fault. subst (λ m. HasCause m (g.D.Disk.faults c.trim.new.disk)) same.faults (t.calls.cause fault);

@@ -18,8 +18,8 @@ count_line es = line_text (codes "ledger" ∷ decimal (length es) ∷ [])
 abbrev first_lines : ℕ → List Entry → List ℕ
 first_lines i es = concat (map entry_line (take i es))
 
-pub returns-in_err-write_count-clause-front : goal.returns-in_err-write_count-clause-front
-returns-in_err-write_count-clause-front g c =
+pub returns-in_err-write_count-clause-cut_short : goal.returns-in_err-write_count-clause-cut_short
+returns-in_err-write_count-clause-cut_short g c =
     on_err-always _ (cut_short-none _ _ (omega (arith, length-append c.args.held.now (ledger_text c.args.entries.now))))
 
 pub loop-entry-preserved : goal.loop-entry-preserved
@@ -34,14 +34,14 @@ loop-entry-preserved g c =
       grows = omega (arith, c.loop-entry.invariant.grows, c.in_ok-write_line.ensures.counts);
     }
 
-pub returns-in_err-write_line-clause-front : goal.returns-in_err-write_line-clause-front
-returns-in_err-write_line-clause-front g c =
+pub returns-in_err-write_line-clause-cut_short : goal.returns-in_err-write_line-clause-cut_short
+returns-in_err-write_line-clause-cut_short g c =
     let held = c.args.held.now in
     let es = c.args.entries.now in
     let i = c.loop-entry.entry-index in
     let line = entry_line c.entry-item.result in
     let later = concat (map entry_line (drop (i + 1) es)) in
-    let cut = cut-then _ _ _ held c.loop-entry.held (count_line es ++ first_lines i es) c.loop-entry.invariant.added line c.in_err-write_line.ensures.front in
+    let cut = cut-then _ _ _ held c.loop-entry.held (count_line es ++ first_lines i es) c.loop-entry.invariant.added line c.in_err-write_line.ensures.cut_short in
     let whole : (count_line es ++ first_lines i es) ++ line ++ later ≡ ledger_text es =
     ap (λ t. t ++ later) (append_assoc (count_line es) (first_lines i es) line) ∙ append_assoc (count_line es) (first_lines i es ++ line) later
     ∙ ap (λ t. count_line es ++ t) (concat-rest entry_line es i _ _ c.loop-entry-test.true c.entry-item.is) in

@@ -10,18 +10,18 @@ use Rattle.jf_serve.proofs.report.write_session.Goals as goal
 abbrev begin : List ℕ
 begin = line_text (codes "session" ∷ [])
 
-pub returns-in_err-put_held-clause-front : goal.returns-in_err-put_held-clause-front
-returns-in_err-put_held-clause-front g c =
+pub returns-in_err-put_held-clause-cut_short : goal.returns-in_err-put_held-clause-cut_short
+returns-in_err-put_held-clause-cut_short g c =
     let held = c.args.held.now in
     let output = c.args.output.now in
     let line = c.append.new.self in
     on_err-always _ (
     cut-then _ _ _ held line begin (adds-held (g.K.Sink.text c.args.sink.now) held line begin c.in_ok-append.ensures.ok) output
-    (cut_short-longer _ _ line output c.in_err-put_held.ensures.front)
+    (cut_short-longer _ _ line output c.in_err-put_held.ensures.cut_short)
     )
 
-pub returns-in_err-put_all-clause-front : goal.returns-in_err-put_all-clause-front
-returns-in_err-put_all-clause-front g c =
+pub returns-in_err-put_all-clause-cut_short : goal.returns-in_err-put_all-clause-cut_short
+returns-in_err-put_all-clause-cut_short g c =
     let held = c.args.held.now in
     let output = c.args.output.now in
     let empty = c.put_held.new.held in

@@ -19,10 +19,10 @@ loop-output-preserved g c =
       grows = omega (arith, c.loop-output.invariant.grows, c.in_ok-write_session.ensures.counts);
     }
 
-pub returns-in_err-write_session-clause-front : goal.returns-in_err-write_session-clause-front
-returns-in_err-write_session-clause-front g c =
+pub returns-in_err-write_session-clause-cut_short : goal.returns-in_err-write_session-clause-cut_short
+returns-in_err-write_session-clause-cut_short g c =
     let held = c.args.held.now in
     let outputs = c.args.outputs.now in
     let i = c.loop-output.output-index in
-    let cut = cut-then _ _ _ held c.loop-output.held (concat (map session_text (take i outputs))) c.loop-output.invariant.added _ c.in_err-write_session.ensures.front in
+    let cut = cut-then _ _ _ held c.loop-output.held (concat (map session_text (take i outputs))) c.loop-output.invariant.added _ c.in_err-write_session.ensures.cut_short in
     on_err-always _ (cut_short-in _ _ held _ (concat (map session_text (drop (i + 1) outputs))) _ (concat-rest session_text outputs i _ _ c.loop-output-test.true (c.as_slice.ensures ∙ c.output-item.is)) cut)

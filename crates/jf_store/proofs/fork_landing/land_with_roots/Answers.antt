@@ -4,8 +4,8 @@ use Rattle.jf_model.proofs.VersionLaws.{land_all-head, land_all-base}
 use Rattle.jf_store.proofs.ChainRoots.{roots_from-landed}
 use Rattle.jf_store.proofs.fork_landing.land_with_roots.Goals as goal
 
-pub of-roots-requires-clause-recorded : goal.of-roots-requires-clause-recorded
-of-roots-requires-clause-recorded g c κs within =
+pub of-roots-requires-clause-low : goal.of-roots-requires-clause-low
+of-roots-requires-clause-low g c κs within =
     let v = c.args.engine.now.versions in
     let done = c.in-Ok-land_batches.ensures.step in
     let base : c.land_batches.new.engine.versions.base ≡ v.base = ap (λ (w : Versions). w.base) done.versions_are ∙ land_all-base c.args.batches v in

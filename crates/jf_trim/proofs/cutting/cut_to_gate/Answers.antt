@@ -13,7 +13,7 @@ returns-in_err-log-clause-stop g c = λ h told.
 
 pub begin-requires-clause-quiet : goal.begin-requires-clause-quiet
 begin-requires-clause-quiet g c = λ κs lives k now.
-    let b = told_before _ _ k c.read_side.ensures.calls.untold now in
+    let b = told_before _ _ k c.read_side.ensures.calls.unknown now in
     let same : k.now ≡ b.0.now = idle_told b.0 k _ (c.read_side.ensures.idle b.0 b.1) now in
     subst (λ w. content_on w k.now ≡ durable (content_on w k.now).bytes) (sym c.in_ok-log.ensures.fresh.0)
     (subst (λ (s : DiskState). content_on c.args.side s ≡ durable (content_on c.args.side s).bytes) (sym same) (c.requires b.0 b.1))

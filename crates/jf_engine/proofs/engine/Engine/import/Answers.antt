@@ -54,7 +54,7 @@ invariant_of-self g c =
       λ whole.
           let frame = subst (λ bytes. IsFrame bytes 5 (record_bytes format.Two (checkpoint_of n s))) (sym c.as_slice.ensures) c.in_ok-frame.ensures.frame in
           let leads = checkpoint_leads c.checkpoints_follow.ensures c.checkpoints_are_numbered.ensures s n c.know-2.ensures.read c.know-2.ensures.sound c.in_ok-frame.ensures.spelled in
-          switched_keeps (g.D.Disk.history c.self.inside.disk) (g.D.Disk.history c.switch.new.disk) c.switch.new.self format.Two s n (checkpoint_at_start n s) c.in-Ok.ensures.calls.untold c.in-Ok.ensures.side.1 (unfailed _ c.in-Ok.ensures.failed.0) leads.0 leads.1
+          switched_keeps (g.D.Disk.history c.self.inside.disk) (g.D.Disk.history c.switch.new.disk) c.switch.new.self format.Two s n (checkpoint_at_start n s) c.in-Ok.ensures.calls.unknown c.in-Ok.ensures.side.1 (unfailed _ c.in-Ok.ensures.failed.0) leads.0 leads.1
           (λ h told. c.in-Ok.ensures.ok h 5 (record_bytes format.Two (checkpoint_of n s)) told frame),
     )
 
@@ -93,7 +93,7 @@ returns-in-Ok-clause-step g c =
       least = search rules;
       most = search rules;
       faults = search rules;
-      untold = search rules;
+      unknown = search rules;
       began = search rules;
       dated = search rules;
       disk = disk;
@@ -147,7 +147,7 @@ returns-in-Err-clause-step g c =
       most = search rules;
       faults = search rules;
       cause = search rules;
-      untold = search rules;
+      unknown = search rules;
       began = search rules;
       disk = disk;
     }

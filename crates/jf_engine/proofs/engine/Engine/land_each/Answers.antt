@@ -39,7 +39,7 @@ invariant_of-self-in-Ok-append g c = (
       let w = c.in_ok-landings.ensures in
       let frame = subst (λ bytes. IsFrame bytes (kind_of fmt r) (record_bytes fmt r)) (sym c.as_slice.ensures) (subst (λ (cs : List Commit). IsFrame c.encode_landings.new.out (kind_of fmt (landed_record cs)) (record_bytes fmt (landed_record cs))) (c.deref-2.ensures.value ∙ w.written) c.in-Ok.ensures) in
       let k = c.self.invariant.2 c.if-self.false in
-      let kept = appended_keeps _ _ p c.append.new.self fmt s (all_landed format.Two s bs) c.self.inside.generation (appended fmt p.offset r) k c.in-Ok-append.ensures.calls.untold (c.in-Ok-append.ensures.rest.1 ∙ k.live) (unfailed _ c.in-Ok-append.ensures.failed.0)
+      let kept = appended_keeps _ _ p c.append.new.self fmt s (all_landed format.Two s bs) c.self.inside.generation (appended fmt p.offset r) k c.in-Ok-append.ensures.calls.unknown (c.in-Ok-append.ensures.rest.1 ∙ k.live) (unfailed _ c.in-Ok-append.ensures.failed.0)
       (λ rs leads. (landings_lead c.landings_follow.ensures c.formats_are_sound.ensures c.formats_group.ensures c.kept_is_spelled.ensures c.written_in_both.ensures rs fmt p.offset s bs leads c.know.ensures.read c.know.ensures.sound w.sound w.bounded.1 w.bounded.0 w.spelled).0)
       (λ h told. c.in-Ok-append.ensures.ok h (k.holds h told).held (kind_of fmt r) (record_bytes fmt r) told (k.holds h told).in_step frame) in
       subst (λ (t : Standing). KeepsStandingFiles (g.D.Disk.history c.append.new.disk) c.append.new.self fmt t c.self.inside.generation) (sym w.landed) kept,
@@ -88,7 +88,7 @@ returns-in-Ok-append-clause-step g c =
         least = search rules;
         most = search rules;
         faults = search rules;
-        untold = search rules;
+        unknown = search rules;
         began = search rules;
         dated = search rules;
         disk = disk;
@@ -131,7 +131,7 @@ returns-clause-step g c =
         most = search rules;
         faults = search rules;
         cause = search rules;
-        untold = search rules;
+        unknown = search rules;
         began = search rules;
         disk = disk;
       },

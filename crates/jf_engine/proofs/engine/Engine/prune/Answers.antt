@@ -31,7 +31,7 @@ invariant_of-self g c = (
       let k = c.self.invariant.2 c.if-self.false in
       let low = subst (λ (e : Engine). e.versions.floor ≤ c.args.floor) (sym c.self.view_is) c.requires.low in
       let high = subst (λ (e : Engine). c.args.floor ≤ e.versions.head) (sym c.self.view_is) c.requires.high in
-      let kept = appended_keeps _ _ p c.append.new.self fmt s (with_floor c.args.floor s) c.self.inside.generation (appended fmt p.offset («record».Floor c.args.floor)) k c.in-Ok.ensures.calls.untold (c.in-Ok.ensures.rest.1 ∙ k.live) (unfailed _ c.in-Ok.ensures.failed.0)
+      let kept = appended_keeps _ _ p c.append.new.self fmt s (with_floor c.args.floor s) c.self.inside.generation (appended fmt p.offset («record».Floor c.args.floor)) k c.in-Ok.ensures.calls.unknown (c.in-Ok.ensures.rest.1 ∙ k.live) (unfailed _ c.in-Ok.ensures.failed.0)
       (λ rs leads. (floors_lead c.floors_follow.ensures c.formats_are_sound.ensures c.formats_follow.ensures rs fmt p.offset s c.args.floor leads c.know.ensures.sound low high).0)
       (λ h told. c.in-Ok.ensures.ok h (k.holds h told).held 2 (record_bytes fmt («record».Floor c.args.floor)) told (k.holds h told).in_step (c.encode_floor.ensures fmt)) in
       subst (λ (t : Standing). KeepsStandingFiles (g.D.Disk.history c.append.new.disk) c.append.new.self fmt t c.self.inside.generation) (sym c.prune.ensures) kept,
@@ -75,7 +75,7 @@ returns-in-Ok g c =
         least = search rules;
         most = search rules;
         faults = search rules;
-        untold = search rules;
+        unknown = search rules;
         began = search rules;
         dated = search rules;
         disk = disk;
@@ -109,7 +109,7 @@ returns-in-Err g c =
         most = search rules;
         faults = search rules;
         cause = search rules;
-        untold = search rules;
+        unknown = search rules;
         began = search rules;
         disk = disk;
       };

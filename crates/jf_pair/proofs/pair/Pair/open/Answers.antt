@@ -4,7 +4,7 @@ use Rattle.jf_disk.proofs.CrashLaws.{told_same}
 use Rattle.jf_disk.specs.declared.side.Side.TheVariants as side
 use Rattle.jf_pair.specs.Files.{HoldsLive}
 use Rattle.jf_pair.proofs.FileLaws.{live_a_some}
-use Rattle.jf_pair.specs.Pairs.{IsInStep, read_by}
+use Rattle.jf_pair.specs.Pairs.{IsInStep, log_records}
 use Rattle.jf_pair.proofs.PairLaws.{in_step_holds}
 use Rattle.jf_pair.proofs.Opened.{opened_in_step, read_same, synced_same}
 use Rattle.jf_pair.proofs.pair.Pair.open.Goals as goal
@@ -37,7 +37,7 @@ pub returns-in-B-clause-found : goal.returns-in-B-clause-found
 returns-in-B-clause-found g c = λ h told.
     let x = returns-in-B-clause-in_step g c h told in
     let y = c.read_sides.ensures.left h told in
-    subst (λ f. HoldsLive f (read_by c.pair_of-in-B.result.1)) (ap reads (told_same x.0 y.0 _ x.1 y.1) ∙ y.2.same) (in_step_holds c.pair_of-in-B.result.0 (read_by c.pair_of-in-B.result.1) x.0 x.2)
+    subst (λ f. HoldsLive f (log_records c.pair_of-in-B.result.1)) (ap reads (told_same x.0 y.0 _ x.1 y.1) ∙ y.2.same) (in_step_holds c.pair_of-in-B.result.0 (log_records c.pair_of-in-B.result.1) x.0 x.2)
 
 pub returns-in-A-clause-first : goal.returns-in-A-clause-first
 returns-in-A-clause-first g c = λ none.

@@ -1,4 +1,4 @@
-use Rattle.jf_session.proofs.ReplySizes.{AreSizesOf-one, replies_of-one, AreSizesFrom-appended, left-appended}
+use Rattle.jf_session.proofs.ReplySizes.{AreSizesOf-one, sized_replies-one, AreSizesFrom-appended, left-appended}
 use Rattle.jf_session.proofs.prepared_reply.PreparedReplies.push.Goals as goal
 
 pub invariant_of-self : goal.invariant_of-self
@@ -13,4 +13,4 @@ returns-clause-ok c =
     let i = c.self.inside in
     let new = c.append_all.new in
     left-appended i.taken i.line_start i.text_start i.sizes.items i.lines.items i.texts.items c.self.invariant c.append_all.result new.sizes.items new.lines.items new.texts.items _ _ _ c.append_all.ensures.ok c.args.self.now c.self.view_is
-    _ (replies_of-one c.args.line.now c.args.text.now)
+    _ (sized_replies-one c.args.line.now c.args.text.now)

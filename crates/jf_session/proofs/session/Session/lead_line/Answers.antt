@@ -39,13 +39,13 @@ returns-in-Err-Memory g c =
     subst (λ (t : Session). DoesLeading s line told (Err stop.Memory) t told) (sym c.stop.ensures)
     (leads_over start s s line told told c.requires.own.1 c.requires.over c.know_events.ensures stop.Memory (led_unread start s line c.know_own.ensures.pins told))
 
-pub led_as-led-requires-clause-bounded : goal.led_as-led-requires-clause-bounded
-led_as-led-requires-clause-bounded g c = λ κs le. command_of-IsBoundedCommand c.args.line.now _ c.in-Ok.ensures.found
+pub lead_command-led-requires-clause-bounded : goal.lead_command-led-requires-clause-bounded
+lead_command-led-requires-clause-bounded g c = λ κs le. command_of-IsBoundedCommand c.args.line.now _ c.in-Ok.ensures.found
 
 pub know_events-requires-2-after_bounds : goal.know_events-requires-2-after_bounds
 know_events-requires-2-after_bounds g c = λ κs le.
     let s = c.args.self.now in
-    let d = c.led_as-led in
+    let d = c.lead_command-led in
     own_led c.args.store.now.start s d.new.self c.args.line.now c.args.told.now d.new.told d.result c.args.store.now c.requires.own
     (led_line _ s d.new.self c.args.line.now _ c.in-Ok.ensures.short c.in-Ok.ensures.found c.know_own.ensures.number c.know_own-2.ensures.pins c.args.told.now d.new.told d.result d.ensures)
 
@@ -53,7 +53,7 @@ pub returns-in-Ok-led : goal.returns-in-Ok-led
 returns-in-Ok-led g c =
     let start = c.args.store.now.start in
     let s = c.args.self.now in
-    let d = c.led_as-led in
+    let d = c.lead_command-led in
     let line = c.args.line.now in
     leads_on start s d.new.self line c.args.told.now d.new.told c.requires.own.1 c.requires.over c.know_events-2.ensures
     (led_line start s d.new.self line _ c.in-Ok.ensures.short c.in-Ok.ensures.found c.know_own.ensures.number c.know_own-2.ensures.pins c.args.told.now d.new.told (Ok tt) c.in-Ok-led.ensures)
@@ -62,7 +62,7 @@ pub returns-in-Err : goal.returns-in-Err
 returns-in-Err g c =
     let start = c.args.store.now.start in
     let s = c.args.self.now in
-    let d = c.led_as-led in
+    let d = c.lead_command-led in
     let line = c.args.line.now in
     let why = c.in-Err.why in
     subst (λ (t : Session). DoesLeading s line c.args.told.now (Err why) t d.new.told) (sym c.stop-in-Err.ensures)

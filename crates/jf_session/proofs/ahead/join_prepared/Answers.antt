@@ -2,7 +2,7 @@ use Rattle.std.proofs.Common.{subst}
 use Rattle.std.specs.List.{AllByRecursion}
 use Rattle.jf_session.specs.PreparedReplies.{IsPreparedFor, ArePreparedFor}
 use Rattle.jf_session.proofs.PreparedParts.{All-appended}
-use Rattle.jf_session.proofs.ahead.joined.Goals as goal
+use Rattle.jf_session.proofs.ahead.join_prepared.Goals as goal
 
 pub returns-then-is_err : goal.returns-then-is_err
 returns-then-is_err c = λ m n all.

@@ -6,7 +6,7 @@ use Rattle.jf_session.proofs.RefusedCalls.{IsSoundSession-failed}
 use Rattle.jf_session.proofs.Changes.{Enters-land, Fails-land}
 use Rattle.jf_session.proofs.LandedBlocks.{chain_each, chain_last}
 use Rattle.jf_session.proofs.ToldLandings.{land_led, failed_led}
-use Rattle.jf_session.proofs.session.Session.land_told.Goals as goal
+use Rattle.jf_session.proofs.session.Session.land_with_blocks.Goals as goal
 
 pub tell_chain-requires-clause-long : goal.tell_chain-requires-clause-long
 tell_chain-requires-clause-long g c = chain_each c.args.store.now.start c.self.inside.pass c.land_chain-landed.new.self c.args.id c.in-Ok.chain c.in-Ok.ensures.landed
@@ -40,4 +40,4 @@ returns-in-Err g c =
     let i = c.self.inside in
     let p' = c.land_chain-landed.new.self in
     failed_led c.args.store.now.start i.pass p' i.pending i.over c.args.self.now c.self.view_is c.requires.over (command.Change (change.Land c.args.id)) c.in-Err.fault
-    (Fails-land _ i.pass p' i.pending c.know.ensures.events c.know.ensures.start c.args.id c.in-Err.fault c.in-Err.ensures.failed) refl c.refusal_reply.new.over c.refusal_reply.result c.refusal_reply.ensures c.args.told.now c.untold.result c.untold.ensures
+    (Fails-land _ i.pass p' i.pending c.know.ensures.events c.know.ensures.start c.args.id c.in-Err.fault c.in-Err.ensures.failed) refl c.refusal_reply.new.over c.refusal_reply.result c.refusal_reply.ensures c.args.told.now c.discard_reply.result c.discard_reply.ensures
