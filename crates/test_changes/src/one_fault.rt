@@ -40,7 +40,7 @@ fn reached_by(failing: u64) -> Reached {
 const ANSWERED: &[usize] = &[1, 2, 4, 6, 7, 9];
 
 // Whether a run ended in a change with the replies to the lines before.
-fn is_told(played: &Played<MemDisk>) -> bool {
+fn is_as_expected(played: &Played<MemDisk>) -> bool {
     let ended = played.status == Status::DiskFault && played.start == Some(0);
     match ANSWERED.get(played.entries as usize) {
         Some(lines) => ended && played.entries != 1 && are_replies(&played.text, *lines),
@@ -54,7 +54,7 @@ fn has_reached(played: &Played<MemDisk>, reached: Reached) -> bool {
         Reached::Opening => {
             has_ended(played, Status::DiskFault, None, b"") && played.entries == 0
         }
-        Reached::Change => is_told(played),
+        Reached::Change => is_as_expected(played),
         Reached::End => has_ended(played, Status::Done, Some(0), REPLIES),
     }
 }

@@ -13,10 +13,10 @@ use std::thread::Threads;
 struct Row {
     what: &'static str,
     first: &'static str,
-    told: &'static str,
+    replies: &'static str,
     head: u64,
     second: &'static str,
-    told_again: &'static str,
+    replies_again: &'static str,
 }
 
 const ROWS: &[Row] = &[
@@ -30,7 +30,7 @@ const ROWS: &[Row] = &[
                 prune 3\n\
                 unpin 0\n\
                 prune 3\n",
-        told: "0 ok pending 1\n\
+        replies: "0 ok pending 1\n\
                1 ok commit 1 R\n\
                2 ok commit 2 R\n\
                3 ok commit 3 R\n\
@@ -42,7 +42,7 @@ const ROWS: &[Row] = &[
         second: "get v2 61\n\
                  get v3 61\n\
                  status\n",
-        told_again: "0 no retired 3\n\
+        replies_again: "0 no retired 3\n\
                      0 ok value =31\n\
                      0 ok status base 0 floor 3 retired 3 head 3 kept 1 forks 0 generation 1\n",
     },
@@ -53,7 +53,7 @@ const ROWS: &[Row] = &[
                 put 62 =32\n\
                 fork f0\n\
                 land f0\n",
-        told: "0 ok pending 1\n\
+        replies: "0 ok pending 1\n\
                1 ok fork f0 R\n\
                1 ok pending 1\n\
                2 ok fork f1 P\n\
@@ -67,7 +67,7 @@ const ROWS: &[Row] = &[
                  fork f0\n\
                  land f1\n\
                  status\n",
-        told_again: "0 no unknown\n\
+        replies_again: "0 no unknown\n\
                      0 no unknown\n\
                      0 no unknown\n\
                      1 ok fork f0 R\n\
@@ -86,7 +86,7 @@ const ROWS: &[Row] = &[
                 pin 1\n\
                 prune 3\n\
                 get v1 61\n",
-        told: "0 ok pending 1\n\
+        replies: "0 ok pending 1\n\
                1 ok commit 1 R\n\
                1 ok pending 1\n\
                2 ok commit 2 S\n\
@@ -105,7 +105,7 @@ const ROWS: &[Row] = &[
                  get v1 61\n\
                  status\n\
                  pin 2\n",
-        told_again: "0 no nopin\n\
+        replies_again: "0 no nopin\n\
                      0 no nopin\n\
                      0 no retired 1\n\
                      0 ok value =31\n\
@@ -121,14 +121,14 @@ const ROWS: &[Row] = &[
         first: "put 61 =31\n\
                 commit\n\
                 put 62 =32\n",
-        told: "0 ok pending 1\n\
+        replies: "0 ok pending 1\n\
                1 ok commit 1 R\n\
                1 ok pending 1\n",
         head: 1,
         second: "get head 62\n\
                  commit\n\
                  root head\n",
-        told_again: "0 ok none\n\
+        replies_again: "0 ok none\n\
                      1 ok commit 2 R\n\
                      1 ok root R\n",
     },
@@ -141,7 +141,7 @@ const ROWS: &[Row] = &[
                 put 62 =33\n\
                 fork f1\n\
                 land f2\n",
-        told: "0 ok pending 1\n\
+        replies: "0 ok pending 1\n\
                1 ok fork f0 R\n\
                1 ok pending 1\n\
                2 ok fork f1 S\n\
@@ -159,7 +159,7 @@ const ROWS: &[Row] = &[
                  prune 2\n\
                  commit\n\
                  status\n",
-        told_again: "0 ok root E\n\
+        replies_again: "0 ok root E\n\
                      0 ok root R\n\
                      0 ok root S\n\
                      0 ok root T\n\
@@ -177,7 +177,7 @@ const ROWS: &[Row] = &[
                 commit\n\
                 compact\n\
                 commit\n",
-        told: "0 ok pending 1\n\
+        replies: "0 ok pending 1\n\
                1 ok commit 1 R\n\
                2 ok commit 2 R\n\
                3 ok compact 2\n\
@@ -190,7 +190,7 @@ const ROWS: &[Row] = &[
                  put 62 =32\n\
                  commit\n\
                  root v4\n",
-        told_again: "0 ok status base 0 floor 0 retired 0 head 3 kept 4 forks 0 generation 2\n\
+        replies_again: "0 ok status base 0 floor 0 retired 0 head 3 kept 4 forks 0 generation 2\n\
                      0 ok root R\n\
                      1 ok compact 3\n\
                      1 ok status base 0 floor 0 retired 0 head 3 kept 4 forks 0 generation 3\n\
@@ -209,7 +209,7 @@ const ROWS: &[Row] = &[
                 prune 2\n\
                 put 62 =33\n\
                 commit\n",
-        told: "0 ok pending 1\n\
+        replies: "0 ok pending 1\n\
                1 ok commit 1 R\n\
                1 ok pending 1\n\
                2 ok commit 2 S\n\
@@ -226,7 +226,7 @@ const ROWS: &[Row] = &[
                  compact\n\
                  status\n\
                  root v2\n",
-        told_again: "0 no retired 2\n\
+        replies_again: "0 no retired 2\n\
                      0 ok root S\n\
                      0 ok root T\n\
                      0 ok status base 0 floor 2 retired 2 head 3 kept 4 forks 0 generation 2\n\
@@ -243,7 +243,7 @@ const ROWS: &[Row] = &[
                 pin 1\n\
                 prune 2\n\
                 compact\n",
-        told: "0 ok pending 1\n\
+        replies: "0 ok pending 1\n\
                1 ok commit 1 R\n\
                1 ok pending 1\n\
                2 ok commit 2 S\n\
@@ -258,7 +258,7 @@ const ROWS: &[Row] = &[
                  prune 2\n\
                  get v1 61\n\
                  status\n",
-        told_again: "0 no retired 1\n\
+        replies_again: "0 no retired 1\n\
                      0 ok value =31\n\
                      0 ok root R\n\
                      0 ok status base 0 floor 1 retired 1 head 2 kept 2 forks 0 generation 2\n\
@@ -287,16 +287,16 @@ fn disk_after_script<H: Threads + Wait + Sync>(
 }
 
 // Whether both scripts of a row get their replies.
-fn are_told<H: Threads + Wait + Sync>(rt: &H, alloc: Global, row: &Row) -> Result<bool, Fail> {
+fn are_replied<H: Threads + Wait + Sync>(rt: &H, alloc: Global, row: &Row) -> Result<bool, Fail> {
     let disk = new_disk(alloc, b"", &[])?;
-    match disk_after_script(rt, alloc, disk, row.first, 0, row.told)? {
+    match disk_after_script(rt, alloc, disk, row.first, 0, row.replies)? {
         Some(disk) => Ok(disk_after_script(
             rt,
             alloc,
             disk,
             row.second,
             row.head,
-            row.told_again,
+            row.replies_again,
         )?.is_some()),
         None => Ok(false),
     }
@@ -306,7 +306,7 @@ fn are_told<H: Threads + Wait + Sync>(rt: &H, alloc: Global, row: &Row) -> Resul
 fn versions_and_floors_outlive_a_run(rt: HostRuntime) -> Result<(), Fail> {
     let alloc = rt.alloc();
     for row in ROWS {
-        assert!(rt; are_told(&rt, alloc, row)?, "{}", row.what);
+        assert!(rt; are_replied(&rt, alloc, row)?, "{}", row.what);
     }
     Ok(())
 }

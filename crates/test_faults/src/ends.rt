@@ -118,8 +118,8 @@ fn answers_lines_before<H: Threads + Wait + Sync>(
 ) -> Result<bool, Fail> {
     let Stopped { ended, text } = run_failing(rt, alloc, Failing::Source(call as u64))?;
     let want = replies(alloc, lines_before(call))?;
-    let told = text.as_slice() == want.as_slice();
-    Ok(has_ended_so(rt, alloc, ended, Status::ReadFault)? && told)
+    let matches = text.as_slice() == want.as_slice();
+    Ok(has_ended_so(rt, alloc, ended, Status::ReadFault)? && matches)
 }
 
 // The script has 74 bytes, so that the source is asked seven times for them, and then for what isn't there.
@@ -136,8 +136,8 @@ fn a_source_that_fails_leaves_the_replies_to_the_lines_before(rt: HostRuntime) -
 fn writes_front<H: Threads + Wait + Sync>(rt: &H, alloc: Global, call: u64) -> Result<bool, Fail> {
     let Stopped { ended, text } = run_failing(rt, alloc, Failing::Sink(call))?;
     let whole = replies(alloc, REPLIES.len())?;
-    let told = whole.starts_with(&text) && text.len() < whole.len();
-    Ok(has_ended_so(rt, alloc, ended, Status::WriteFault)? && told)
+    let matches = whole.starts_with(&text) && text.len() < whole.len();
+    Ok(has_ended_so(rt, alloc, ended, Status::WriteFault)? && matches)
 }
 
 // The replies have more than 300 bytes, so that the sink is asked more than ten times.

@@ -17,7 +17,7 @@ struct Row {
     sink: &'static [u64],
     disk: &'static [u64],
     status: Status,
-    told: usize,
+    output: usize,
     landings: u64,
 }
 
@@ -31,7 +31,7 @@ const ROWS: &[Row] = &[
         sink: &[],
         disk: &[],
         status: Status::ReadFault,
-        told: 0,
+        output: 0,
         landings: 0,
     },
     Row {
@@ -40,7 +40,7 @@ const ROWS: &[Row] = &[
         sink: &[],
         disk: &[],
         status: Status::ReadFault,
-        told: 0,
+        output: 0,
         landings: 0,
     },
     Row {
@@ -49,7 +49,7 @@ const ROWS: &[Row] = &[
         sink: &[],
         disk: &[],
         status: Status::ReadFault,
-        told: 0,
+        output: 0,
         landings: 1,
     },
     Row {
@@ -58,7 +58,7 @@ const ROWS: &[Row] = &[
         sink: &[],
         disk: &[],
         status: Status::ReadFault,
-        told: 0,
+        output: 0,
         landings: 1,
     },
     Row {
@@ -67,7 +67,7 @@ const ROWS: &[Row] = &[
         sink: &[],
         disk: &[],
         status: Status::ReadFault,
-        told: 0,
+        output: 0,
         landings: 2,
     },
     Row {
@@ -76,7 +76,7 @@ const ROWS: &[Row] = &[
         sink: &[],
         disk: &[],
         status: Status::ReadFault,
-        told: 0,
+        output: 0,
         landings: 3,
     },
     // It landed before the source was asked for more: the disk fails first.
@@ -86,7 +86,7 @@ const ROWS: &[Row] = &[
         sink: &[0],
         disk: &[13],
         status: Status::DiskFault,
-        told: 0,
+        output: 0,
         landings: 0,
     },
     Row {
@@ -95,7 +95,7 @@ const ROWS: &[Row] = &[
         sink: &[0],
         disk: &[20],
         status: Status::DiskFault,
-        told: 0,
+        output: 0,
         landings: 1,
     },
     // It didn't before the last byte was given: the source fails first.
@@ -105,7 +105,7 @@ const ROWS: &[Row] = &[
         sink: &[0],
         disk: &[13],
         status: Status::ReadFault,
-        told: 0,
+        output: 0,
         landings: 0,
     },
     // A sink that fails changes nothing in the files.
@@ -115,7 +115,7 @@ const ROWS: &[Row] = &[
         sink: &[0],
         disk: &[],
         status: Status::WriteFault,
-        told: 0,
+        output: 0,
         landings: 3,
     },
     Row {
@@ -124,7 +124,7 @@ const ROWS: &[Row] = &[
         sink: &[1],
         disk: &[],
         status: Status::WriteFault,
-        told: 7,
+        output: 7,
         landings: 3,
     },
     Row {
@@ -133,7 +133,7 @@ const ROWS: &[Row] = &[
         sink: &[10],
         disk: &[],
         status: Status::WriteFault,
-        told: 70,
+        output: 70,
         landings: 3,
     },
     // No call comes after these.
@@ -143,7 +143,7 @@ const ROWS: &[Row] = &[
         sink: &[11],
         disk: &[25],
         status: Status::Done,
-        told: 76,
+        output: 76,
         landings: 3,
     },
 ];
@@ -165,8 +165,8 @@ fn followed_run<H: Threads + Wait + Sync>(
 
 // Whether a run ended as its row says.
 fn has_ended_so(alloc: Global, played: &Played<MemDisk>, row: &Row) -> Result<bool, Fail> {
-    let told = with_roots(alloc, "followed 3 T\n")?;
-    let is_front = told.starts_with(&played.text) && played.text.len() == row.told;
+    let output = with_roots(alloc, "followed 3 T\n")?;
+    let is_front = output.starts_with(&played.text) && played.text.len() == row.output;
     let ended = played.status == row.status && played.start == Some(0);
     Ok(ended && is_front && played.entries == row.landings)
 }

@@ -321,8 +321,8 @@ fn is_refused<H: Threads + Wait + Sync>(rt: &H, alloc: Global, row: &Row) -> Res
     let input = bytes_of(alloc, row.input)?;
     let played = play_line(rt, alloc, disk, "follow", &input, NO_FAULTS)?;
     let calls = played.disk.moment().saturating_sub(before);
-    let as_told = has_refused(&played, row) && calls == calls_of(row);
-    Ok(as_told && all_show(rt, alloc, played.disk, row)?)
+    let as_expected = has_refused(&played, row) && calls == calls_of(row);
+    Ok(as_expected && all_show(rt, alloc, played.disk, row)?)
 }
 
 #[test]

@@ -18,7 +18,7 @@ struct Row {
     input: &'static [u8],
     start: u64,
     landings: u64,
-    told: &'static str,
+    output: &'static str,
     roots: &'static str,
 }
 
@@ -31,7 +31,7 @@ const ROWS: &[Row] = &[
         input: FIRST,
         start: 0,
         landings: 1,
-        told: "followed 1 R\n",
+        output: "followed 1 R\n",
         roots: "0 ok root R\n0 ok root R\n",
     },
     // The same again, over what it left.
@@ -41,7 +41,7 @@ const ROWS: &[Row] = &[
         input: FIRST,
         start: 1,
         landings: 0,
-        told: "followed 1 R\n",
+        output: "followed 1 R\n",
         roots: "0 ok root R\n0 ok root R\n",
     },
     Row {
@@ -50,7 +50,7 @@ const ROWS: &[Row] = &[
         input: THREE,
         start: 0,
         landings: 3,
-        told: "followed 3 T\n",
+        output: "followed 3 T\n",
         roots: "0 ok root R\n0 ok root T\n",
     },
     // A follower catches up from the whole text, or from a part of it that it lacks.
@@ -60,7 +60,7 @@ const ROWS: &[Row] = &[
         input: THREE,
         start: 1,
         landings: 2,
-        told: "followed 3 T\n",
+        output: "followed 3 T\n",
         roots: "0 ok root R\n0 ok root T\n",
     },
     Row {
@@ -70,7 +70,7 @@ const ROWS: &[Row] = &[
             put 6fe4ff1a836fcb881bbe03ff848bb731a5584708153d9bc6dc1d6430579a6a12 =33",
         start: 2,
         landings: 1,
-        told: "followed 3 T\n",
+        output: "followed 3 T\n",
         roots: "0 ok root R\n0 ok root T\n",
     },
     // Nothing, over a new store and over another one.
@@ -80,7 +80,7 @@ const ROWS: &[Row] = &[
         input: b"",
         start: 0,
         landings: 0,
-        told: "followed 0 E\n",
+        output: "followed 0 E\n",
         roots: "0 no future 0\n0 ok root E\n",
     },
     Row {
@@ -89,7 +89,7 @@ const ROWS: &[Row] = &[
         input: b"",
         start: 1,
         landings: 0,
-        told: "followed 1 R\n",
+        output: "followed 1 R\n",
         roots: "0 ok root R\n0 ok root R\n",
     },
     // A block that comes twice, another batch for a version that is there, the root of version 0, and a batch of nothing.
@@ -106,7 +106,7 @@ const ROWS: &[Row] = &[
             landing 2 9bb72c39f13d2b512ea34eae99a28f6d807a134ab125e89172310c6f6ea72f8f 0\n",
         start: 0,
         landings: 2,
-        told: "followed 2 R\n",
+        output: "followed 2 R\n",
         roots: "0 ok root R\n0 ok root R\n",
     },
     // A removal.
@@ -118,7 +118,7 @@ const ROWS: &[Row] = &[
             del 6fe4ff1a836fcb881bbe03ff848bb731a5584708153d9bc6dc1d6430579a6a12\n",
         start: 1,
         landings: 1,
-        told: "followed 2 E\n",
+        output: "followed 2 E\n",
         roots: "0 ok root R\n0 ok root E\n",
     },
     // The roots of versions that were pruned are still there.
@@ -131,7 +131,7 @@ const ROWS: &[Row] = &[
         input: THREE,
         start: 2,
         landings: 1,
-        told: "followed 3 T\n",
+        output: "followed 3 T\n",
         roots: "0 no retired 2\n0 ok root T\n",
     },
     // From a restored version on.
@@ -143,7 +143,7 @@ const ROWS: &[Row] = &[
             put 6fe4ff1a836fcb881bbe03ff848bb731a5584708153d9bc6dc1d6430579a6a12 =33\n",
         start: 1,
         landings: 1,
-        told: "followed 2 Q\n",
+        output: "followed 2 Q\n",
         roots: "0 ok root P\n0 ok root Q\n",
     },
     // The last version that there can be.
@@ -153,7 +153,7 @@ const ROWS: &[Row] = &[
         input: b"landing 18446744073709551614 6e340b9cffb37a989ca544e6bb780a2c78901d3fb33738768511a30617afa01d 0\n",
         start: 18_446_744_073_709_551_614,
         landings: 0,
-        told: "followed 18446744073709551614 E\n",
+        output: "followed 18446744073709551614 E\n",
         roots: "0 no retired 18446744073709551614\n0 ok root E\n",
     },
 ];
@@ -184,12 +184,12 @@ fn is_followed<H: Threads + Wait + Sync>(
     let disk = disk_after(rt, alloc, row.before)?;
     let faults = Faults { piece, ..NO_FAULTS };
     let played = play_line(rt, alloc, disk, row.words, row.input, faults)?;
-    let told = with_roots(alloc, row.told)?;
-    let ended = has_ended(&played, Status::Done, Some(row.start), &told);
-    let as_told = ended && played.entries == row.landings;
+    let output = with_roots(alloc, row.output)?;
+    let ended = has_ended(&played, Status::Done, Some(row.start), &output);
+    let as_expected = ended && played.entries == row.landings;
     let head = row.start.saturating_add(row.landings);
     has_roots(rt, alloc, played.disk, head, row.roots)?;
-    Ok(as_told)
+    Ok(as_expected)
 }
 
 #[test]

@@ -125,7 +125,11 @@ const ROWS: &[Row] = &[
 ];
 
 // Whether the blocks of a row's script are written so.
-fn is_told<H: Threads + Wait + Sync>(rt: &H, alloc: Global, row: &Row) -> Result<bool, Fail> {
+fn is_as_expected<H: Threads + Wait + Sync>(
+    rt: &H,
+    alloc: Global,
+    row: &Row,
+) -> Result<bool, Fail> {
     let blocks = with_roots(alloc, row.blocks)?;
     let script = row.script.as_bytes();
     let played = play_after(rt, alloc, row.before, row.words, script, NO_FAULTS)?;
@@ -136,7 +140,7 @@ fn is_told<H: Threads + Wait + Sync>(rt: &H, alloc: Global, row: &Row) -> Result
 #[test]
 fn a_block_is_written_for_each_version_that_is_landed(rt: HostRuntime) -> Result<(), Fail> {
     for row in ROWS {
-        assert!(rt; is_told(&rt, rt.alloc(), row)?, "of {}", row.script);
+        assert!(rt; is_as_expected(&rt, rt.alloc(), row)?, "of {}", row.script);
     }
     Ok(())
 }

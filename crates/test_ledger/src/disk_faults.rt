@@ -1,5 +1,5 @@
 // Four sessions over a disk that fails in a call: how they end, what they write, and what a crash leaves.
-use crate::lines::{landings_told, replies_in, text_of};
+use crate::lines::{landings_reported, replies_in, text_of};
 use jf_disk::{Disk, MemDisk};
 use jf_play::images::{Crash, image_of};
 use jf_play::play::{NO_FAULTS, Played, new_disk, play};
@@ -29,7 +29,7 @@ const MOST: u64 = LEAST + 4;
 
 // Whether a run whose disk failed in this call, if it was made, ended as it must: in the opening with no text; in a change with
 // a whole text in which a reply is missing; after its last call with all replies.
-fn has_told(played: &Played<MemDisk>, failing: u64) -> bool {
+fn has_reported(played: &Played<MemDisk>, failing: u64) -> bool {
     let replies = replies_in(text_of(&played.text), played.entries);
     let faults = played.disk.faults();
     match (played.status, played.start, replies) {
@@ -47,7 +47,7 @@ const READS: &[u8] = b"root v1\nroot v2\nroot v3\nroot v4\nroot v5\n";
 
 // Whether files were opened with the landings that a text lists, or with one more if the disk failed.
 fn has_landings(opened: &Played<MemDisk>, text: &str, faults: u64) -> bool {
-    match (opened.start, landings_told(text, text_of(&opened.text))) {
+    match (opened.start, landings_reported(text, text_of(&opened.text))) {
         (Some(head), Some(landed)) => landed <= head && head <= landed.saturating_add(faults),
         _ => false,
     }
@@ -96,7 +96,7 @@ fn are_left<H: Threads + Wait + Sync>(
 fn is_sound<H: Threads + Wait + Sync>(rt: &H, alloc: Global, failing: u64) -> Result<(), Fail> {
     let disk = new_disk(alloc, b"", &[failing])?;
     let played = play(rt, alloc, disk, "serve", INPUT, NO_FAULTS)?;
-    if has_told(&played, failing) {
+    if has_reported(&played, failing) {
         are_left(rt, alloc, &played)
     } else {
         Err(Fail::new(failing))

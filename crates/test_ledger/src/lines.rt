@@ -70,7 +70,7 @@ pub(crate) fn replies_in(text: &str, entries: u64) -> Option<usize> {
 
 /// How many landings the ledger of a text lists. `None` unless the replies of a later run, to reads of the versions from 1 on,
 /// tell the root of each.
-pub(crate) fn landings_told(text: &str, replies: &str) -> Option<u64> {
+pub(crate) fn landings_reported(text: &str, replies: &str) -> Option<u64> {
     let mut landed: u64 = 0;
     let mut replies = replies.lines();
     for line in text.lines() {

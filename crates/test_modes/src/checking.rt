@@ -71,7 +71,11 @@ fn is_left(alloc: Global, disk: &MemDisk, row: &Row, calls: u64) -> Result<bool,
 }
 
 // Whether files are reported so, by four calls on the disk.
-fn is_told<H: Threads + Wait + Sync>(rt: &H, alloc: Global, row: &Row) -> Result<bool, Fail> {
+fn is_as_expected<H: Threads + Wait + Sync>(
+    rt: &H,
+    alloc: Global,
+    row: &Row,
+) -> Result<bool, Fail> {
     let played = play_check(rt, alloc, row, &[], NO_INPUT)?;
     let ended = has_ended(&played, row.2, None, row.3.as_bytes());
     Ok(ended && played.entries == 0 && is_left(alloc, &played.disk, row, 4)?)
@@ -80,7 +84,7 @@ fn is_told<H: Threads + Wait + Sync>(rt: &H, alloc: Global, row: &Row) -> Result
 #[test]
 fn files_are_told_of(rt: HostRuntime) -> Result<(), Fail> {
     for row in ROWS {
-        assert!(rt; is_told(&rt, rt.alloc(), row)?, "of {}", row.3);
+        assert!(rt; is_as_expected(&rt, rt.alloc(), row)?, "of {}", row.3);
     }
     Ok(())
 }

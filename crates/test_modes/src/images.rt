@@ -22,7 +22,7 @@ pub(crate) const RESTORED: Found = (
 );
 
 // Whether a run of `root head` told this.
-fn is_told(alloc: Global, played: &Played<MemDisk>, found: Found) -> Result<bool, Fail> {
+fn is_as_expected(alloc: Global, played: &Played<MemDisk>, found: Found) -> Result<bool, Fail> {
     let want = format!(in alloc; "0 ok root {}\n", found.1)?;
     let want = want.as_bytes();
     Ok(has_ended(played, Status::Done, Some(found.0), want))
@@ -36,7 +36,7 @@ pub(crate) fn shows_either<H: Threads + Wait + Sync>(
     either: (Found, Found),
 ) -> Result<bool, Fail> {
     let played = play(rt, alloc, disk, "run", b"root head", NO_FAULTS)?;
-    Ok(is_told(alloc, &played, either.0)? || is_told(alloc, &played, either.1)?)
+    Ok(is_as_expected(alloc, &played, either.0)? || is_as_expected(alloc, &played, either.1)?)
 }
 
 /// Whether each crash after this number of calls leaves one of two.

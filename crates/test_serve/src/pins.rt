@@ -82,8 +82,8 @@ fn is_kept<H: Threads + Wait + Sync>(rt: &H, alloc: Global) -> Result<(), Fail> 
     };
     let disk = disk_of_one(alloc)?;
     let played = serve_gated(rt, alloc, disk, INPUT, &gate)?;
-    let is_told = gate.begun.load(SeqCst) == 1;
-    if is_told && are_all_there(str::from_utf8(&played.text).unwrap_or("")) {
+    let has_begun = gate.begun.load(SeqCst) == 1;
+    if has_begun && are_all_there(str::from_utf8(&played.text).unwrap_or("")) {
         Ok(())
     } else {
         Err(Fail::new("another reply"))

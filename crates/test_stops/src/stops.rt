@@ -204,7 +204,7 @@ fn place_of(status: Status, start: Option<u64>) -> Option<Reached> {
 }
 
 // Whether a run that got so far wrote what it must.
-fn is_told(alloc: Global, played: &Played<MemDisk>, reached: Reached) -> Result<bool, Fail> {
+fn is_as_expected(alloc: Global, played: &Played<MemDisk>, reached: Reached) -> Result<bool, Fail> {
     let told = match reached {
         Reached::Opening => Vec::new(alloc),
         Reached::Landing => replies(alloc, played.entries)?,
@@ -241,7 +241,7 @@ fn reach<H: Threads + Wait + Sync>(
 ) -> Result<Reached, Fail> {
     let played = run_failing(rt, alloc, start, failing)?;
     let reached = place_of(played.status, played.start).ok_or("the run ends otherwise")?;
-    if !is_told(alloc, &played, reached)? {
+    if !is_as_expected(alloc, &played, reached)? {
         return Err(Fail::new("the run writes another text"));
     }
     if reached != Reached::End {

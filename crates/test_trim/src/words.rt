@@ -26,7 +26,7 @@ const ROWS: &[(&str, u64, &[u8])] = &[
 ];
 
 // Whether `trim` writes a row's line, and then that there is nothing more to cut on that side.
-fn is_told<H: Threads + Wait + Sync>(
+fn is_as_expected<H: Threads + Wait + Sync>(
     rt: &H,
     alloc: Global,
     row: &(&str, u64, &[u8]),
@@ -45,7 +45,7 @@ fn is_told<H: Threads + Wait + Sync>(
 #[test]
 fn the_side_and_its_bytes_are_told(rt: HostRuntime) -> Result<(), Fail> {
     for row in ROWS {
-        assert!(rt; is_told(&rt, rt.alloc(), row)?, "after {}", row.0);
+        assert!(rt; is_as_expected(&rt, rt.alloc(), row)?, "after {}", row.0);
     }
     Ok(())
 }
