@@ -16,7 +16,7 @@ What is looked at, outside of blocks of code:
 - a clause or field: a word in backquotes after `clause`, `clauses`, `field` or `fields`. If the record or function stands before it (`X`,
   field `y`) or after it (clause `y` of `X`), it must be one of that; otherwise one of any.
 
-Whatever is none of these, such as commands, texts and values, is skipped: it can't be told what it is.
+Whatever is none of these, such as commands, texts and values, is skipped: nothing shows what it is.
 """
 import glob
 import os

@@ -12,7 +12,7 @@ NEWEST = f"0 ok root {TWO}\n" + STATUS.format(4)
 
 
 class Shell(NamedTuple):
-    """Of a block of commands: what is done before it, in the same folder; what stands for its words in capitals; what is printed; and what else is
+    """Of a block of commands: what is done before it, in the same folder; what its words in capitals mean; what is printed; and what else is
     done after it, whose output is looked at too."""
 
     words: dict[str, str]

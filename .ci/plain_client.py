@@ -1,4 +1,4 @@
-"""What docs/FORMATS.md says of what a client makes of a store's replies, over plain lists: for scripts that test clients.
+"""What docs/FORMATS.md says of what a client concludes from a store's replies, over plain lists: for scripts that test clients.
 
 Nothing is shared with the program or with the clients. Maps are lists of entries, and roots are counted from all of them.
 """
@@ -192,7 +192,7 @@ def chunk_at(lines, place):
 
 
 def chunk_root(entries, depth, siblings):
-    """What entries come to, whose last key stands alone below so many bits, with the siblings on the right of its way."""
+    """The hash of entries whose last key stands alone below so many bits, with the siblings on the right of its way."""
     key, rest = entries[-1][0], list(siblings)
 
     def part_at(part, place):
@@ -231,7 +231,7 @@ def chunk_fault(root, known, chunk):
 
 
 def come_to(root, text):
-    """What chunk blocks come to under a root: `whole COUNT`, `not-whole FOUND`, `line I` or `chunk I CODE`."""
+    """The result of chunk blocks under a root: `whole COUNT`, `not-whole FOUND`, `line I` or `chunk I CODE`."""
     lines, place, known = lines_of(text), 0, []
     while place < len(lines):
         try:

@@ -90,7 +90,7 @@ class Calls:
             yield from flat(found[1], found.start(1), "")
 
     def exported(self, crate: str) -> dict:
-        """The names at the top of a crate, and the paths that they stand for: in it, or in another crate."""
+        """The names at the top of a crate, and the paths that they mean: in it, or in another crate."""
         lib = f"crates/{crate}/src/lib.rt"
         text = self.repository.texts.get(lib)
         return {} if text is None else {here: path for path, here, _ in self.used(lib, rattle_code(text))}
