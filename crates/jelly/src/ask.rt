@@ -22,9 +22,13 @@ pub extern "C" fn jelly_ask(
     value: &mut [u8],
     value_length: &mut usize,
 ) -> u32
+    // The result, the room and the length are those of what the reply shows of the name.
     ensures answer { IsAnswer (lookup root.now name.now reply.now) value.old value.new value_length.old value_length.new result }
+    // What is answered under the root of a map is what the map says of the name, or two lists with one SHA-256 are at hand.
     ensures sound { IsSoundAsk root.now name.now reply.now value.new value_length.new result }
+    // After 2, the map gives the name a value of this length, or two lists with one SHA-256 are at hand.
     ensures sound_room { IsSoundRoom root.now name.now reply.now value_length.new result }
+    // A map's own reply to `prove` is answered as what the map says of the name.
     ensures fair { IsFairAsk root.now name.now reply.now value.old value.new value_length.old value_length.new result }
 {
     answer(look_up(root, name, reply), value, value_length)

@@ -23,8 +23,11 @@ pub extern "C" fn jelly_judge(
     leaf_hash: &[u8; 32],
     siblings: &[[u8; 32]],
 ) -> u32
+    // The result is the number of the first check that fails, or 0.
     ensures verdict { result ≡ verdict_number (refusal root.now (K name.now) (flat_claim has_value value.now) (flat_proof has_leaf leaf_key.now leaf_hash.now siblings.now)) }
+    // What is accepted under the root of a map is what the map says of the name, or two lists with one SHA-256 are at hand.
     ensures sound { IsSoundVerdict root.now name.now (flat_claim has_value value.now) (flat_proof has_leaf leaf_key.now leaf_hash.now siblings.now) result }
+    // What a map says of a name is accepted under its root with its honest proof.
     ensures fair { IsFairVerdict root.now name.now (flat_claim has_value value.now) (flat_proof has_leaf leaf_key.now leaf_hash.now siblings.now) result }
 {
     wrong_claims_collide();

@@ -22,8 +22,11 @@ pub struct Entry {
 #[tactic(auto, unfolding(jf_hash::specs::Roots::root))]
 #[unsafe(no_mangle)]
 pub extern "C" fn jelly_root(entries: &[Entry], root: &mut [u8; 32]) -> u32
+    // The result is 0 if the keys rise strictly, and 1 otherwise.
     ensures number { result ≡ root_number (leaves_in entries.now) }
+    // The root is that of the leaves with these keys and hashes, and unchanged if the keys don't rise.
     ensures root { root.new ≡ root_after root.old (leaves_in entries.now) }
+    // After 0, it is the root of the map with these leaves.
     ensures map { IsRootOfMap (leaves_in entries.now) result root.new }
 {
     if !are_sorted(entries) {

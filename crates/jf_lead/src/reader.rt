@@ -36,6 +36,7 @@ impl Model for LandingReader {
 impl LandingReader {
     /// Begins before the first line.
     pub fn new(alloc: Global) -> LandingReader
+        // No line was read, and the next one is line 1.
         ensures { result ≡ begun_reading }
     {
         LandingReader {
@@ -49,9 +50,13 @@ impl LandingReader {
     /// Refuses a line that doesn't match (`Line`), and any line if memory runs out (`Memory`): nothing more is read then,
     /// and later calls of `line` and `end` return the same.
     pub fn line(&mut self, line: &[u8]) -> Result<Option<(u64, LandingBlock)>, LandingFault>
+        // After Ok, the result is the block that ends with the line, with the number of its first line, if one does.
         ensures block { IfOk result (λ block. block ≡ ended_block self.old line.now) }
+        // After Ok, the line was read, and nothing was refused so far.
         ensures ok { OnOk result ((self.new ≡ reading_after self.old line.now) × (stage_refusal self.new.stage ≡ None)) }
+        // After Err, this refusal is kept: each later call returns it.
         ensures err { IfErr result (λ why. stage_refusal self.new.stage ≡ Some why) }
+        // The line was read, or memory ran out before anything was refused, and no later line is read.
         ensures after { (self.new ≡ reading_after self.old line.now) ⊎ ((stage_refusal self.old.stage ≡ None) × (self.new ≡ stopped_reading self.old)) }
     {
         if let Stage::Refused(why) = self.stage {
@@ -65,7 +70,9 @@ impl LandingReader {
 
     /// Ends the lines. Refuses the line that is missing, if they end in the middle of a block.
     pub fn end(&self) -> Result<(), LandingFault>
+        // After Ok, nothing was refused, and no block is unfinished.
         ensures ok { OnOk result (refusal_at_end self.now.at self.now.stage ≡ None) }
+        // After Err, this is the refusal so far, or the number of the line that an unfinished block lacks.
         ensures err { IfErr result (λ why. refusal_at_end self.now.at self.now.stage ≡ Some why) }
     {
         match self.stage {

@@ -17,7 +17,9 @@ pub fn write_landing(
     batch: &Batch,
     out: &mut Bytes,
 ) -> Result<(), Memory>
+    // After Ok, the text of the block stands at the end.
     ensures ok { OnOk result (out.new ≡ out.old ++ landing_text version root.now batch.now) }
+    // After Err, the text is unchanged.
     ensures err { OnErr result (out.new ≡ out.old) }
 {
     let before = out.len();

@@ -17,7 +17,9 @@ pub fn write_many(
     items: &[Item],
     out: &mut Bytes,
 ) -> Result<(), Memory>
+    // After Ok, the text of the block stands at the end.
     ensures ok { OnOk result (out.new ≡ out.old ++ many_block claims.now items.now) }
+    // After Err, the text is unchanged.
     ensures err { OnErr result (out.new ≡ out.old) }
 {
     let before = out.len();
@@ -46,7 +48,9 @@ fn write_lines(
 /// Appends the first line of a block with so many claims and items. If memory runs out, part of it may be there; so it
 /// is with each of the calls below.
 pub fn write_many_line(claims: u64, items: u64, out: &mut Bytes) -> Result<(), Memory>
+    // After Ok, the line stands at the end.
     ensures ok { OnOk result (out.new ≡ out.old ++ many_line_text claims items) }
+    // After Err, what was there is unchanged, and a part may follow it.
     ensures err { OnErr result (Extends out.old out.new) }
 {
     write_number(b"many ", claims, out)?;
@@ -77,7 +81,9 @@ fn claimed_value(claim: &Option<Bytes>) -> Option<&[u8]>
 
 /// Appends the line of what is claimed of a name.
 pub fn write_named_claim(name: &[u8], claim: Option<&[u8]>, out: &mut Bytes) -> Result<(), Memory>
+    // After Ok, the line stands at the end.
     ensures ok { OnOk result (out.new ≡ out.old ++ named_claim_text (name.now, option_copied claim.entry)) }
+    // After Err, what was there is unchanged, and a part may follow it.
     ensures err { OnErr result (Extends out.old out.new) }
 {
     write_hex(b"claim ", name, out)?;
@@ -89,7 +95,9 @@ pub fn write_named_claim(name: &[u8], claim: Option<&[u8]>, out: &mut Bytes) -> 
 
 /// Appends the lines of items.
 pub fn write_items(items: &[Item], out: &mut Bytes) -> Result<(), Memory>
+    // After Ok, the lines stand at the end, in the order of the items.
     ensures ok { OnOk result (out.new ≡ out.old ++ item_lines items.now) }
+    // After Err, what was there is unchanged, and a part may follow it.
     ensures err { OnErr result (Extends out.old out.new) }
 {
     for item in items {
@@ -100,7 +108,9 @@ pub fn write_items(items: &[Item], out: &mut Bytes) -> Result<(), Memory>
 
 /// Appends the line of an item.
 pub fn write_item(item: &Item, out: &mut Bytes) -> Result<(), Memory>
+    // After Ok, the line stands at the end.
     ensures ok { OnOk result (out.new ≡ out.old ++ item_text item.now) }
+    // After Err, what was there is unchanged, and a part may follow it.
     ensures err { OnErr result (Extends out.old out.new) }
 {
     match item {

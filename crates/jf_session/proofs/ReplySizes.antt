@@ -54,7 +54,7 @@ module _ (k a b : ℕ) (ss : List (ℕ × ℕ)) (ls ts : List ℕ) (left : AreSi
             (subst (λ l. AreSizesOf (drop k ss ++ ss') l (drop b (ts ++ ts'))) (sym (drop-append-le a ls ls' left.1)) (subst (λ t. AreSizesOf (drop k ss ++ ss') (drop a ls ++ ls') t) (sym (drop-append-le b ts ts' left.2)) all)),
       )
 
-  -- and so is what it stands for
+  -- and so is what it represents
   pub left-append : (ss' : List (ℕ × ℕ)) (ls' ts' : List ℕ) → sized_replies (drop k (ss ++ ss')) (drop a (ls ++ ls')) (drop b (ts ++ ts')) ≡ sized_replies (drop k ss) (drop a ls) (drop b ts) ++ sized_replies ss' ls' ts'
   left-append ss' ls' ts' =
       ap₂ (λ (s : List (ℕ × ℕ)) (l : List ℕ). sized_replies s l (drop b (ts ++ ts'))) (drop-append-le k ss ss' left.0) (drop-append-le a ls ls' left.1)
@@ -87,14 +87,14 @@ module _ (k a b : ℕ) (ss : List (ℕ × ℕ)) (ls ts : List ℕ) (left : AreSi
         ap (λ (x : List (ℕ × ℕ)). sized_replies x (drop a ls) (drop b ts)) cut
         ∙ ap₂ (λ (l t : List ℕ). (take s.0 (drop a ls), take s.1 (drop b ts)) ∷ sized_replies (drop (k + 1) ss) l t) (drop-drop s.0 a ls) (drop-drop s.1 b ts)
 
-    -- a value that stands for all that is left begins with it
+    -- a value that represents all that is left begins with it
     pub now_first : (now : List (List ℕ × List ℕ)) → sized_replies (drop k ss) (drop a ls) (drop b ts) ≡ now → (m n : ℕ) → m ≡ s.0 → n ≡ s.1 → now ≡ (take m (drop a ls), take n (drop b ts)) ∷ drop 1 now
     now_first now is m n m_is n_is =
         let first = sym is ∙ left-first in
         first ∙ ap₂ (λ (l t : List ℕ). (l, t) ∷ sized_replies (drop (k + 1) ss) (drop (a + s.0) ls) (drop (b + s.1) ts)) (ap (λ i. take i (drop a ls)) (sym m_is)) (ap (λ i. take i (drop b ts)) (sym n_is))
         ∙ ap (λ (rest : List (List ℕ × List ℕ)). (take m (drop a ls), take n (drop b ts)) ∷ rest) (sym (ap (drop 1) first))
 
-    -- and what is left after it stands for the rest
+    -- and what is left after it represents the rest
     pub now_rest : (now : List (List ℕ × List ℕ)) → sized_replies (drop k ss) (drop a ls) (drop b ts) ≡ now → sized_replies (drop (k + 1) ss) (drop (a + s.0) ls) (drop (b + s.1) ts) ≡ drop 1 now
     now_rest now is = sym (ap (drop 1) (sym is ∙ left-first))
 

@@ -1,3 +1,4 @@
+// Threads of their own take turns at a list of marks: two write, and one looks.
 ghost use Rattle.std.specs.Prelude.{◌≡◌, ℕ, ◌+◌, ◌<◌, ◌≤◌, [], ◌∷◌, ◌++◌, length, IsTrue, IfOk, IfSome, None};
 ghost use Rattle.jf_path.specs.Limits.{max_sessions};
 ghost use Rattle.jf_turn.specs.Lists.{HasElement};
