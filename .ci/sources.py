@@ -114,7 +114,9 @@ HEAD = r"(?m)^[ ]{0,2}(?:(?:pub|abbrev|unfoldable|record|data|codata|private) +)
 def binds(code: str, name: str) -> bool:
     """Whether a piece of logic binds a name as a variable, or declares a field of that name."""
     it = rf"(?<![^\s(){{}},;]){re.escape(name)}(?![^\s(){{}},;:.])"
-    if re.search(rf"λ[^.λ]*{it}[^.λ]*\.|\blet \(?[^=:\n]*{it}[^=\n]*[:=]", code):
+    # (what stands after a colon is the type of a variable)
+    heads = (re.sub(r":[^():]*(?:\([^()]*\)[^():]*)*", " ", it) for it in re.findall(r"λ([^.λ]*)\.", code))
+    if any(re.search(it, head) for head in heads) or re.search(rf"\blet \(?[^=:\n]*{it}[^=:\n]*[:=]", code):
         return True
     if re.search(rf"[({{][^:(){{}}=→]*{it}[^:(){{}}=→]* :", code) or re.search(rf"(?m)^\s+(?:pub )?{it} :", code):
         return True
