@@ -15,7 +15,7 @@ use Rattle.jf_answers.specs.Answers.{Answer, answer, retired_below}
 use Rattle.jf_answers.proofs.AnswerLaws.{IsPruned, IsOf, Follows, EachPin, answer-IsSoundAnswer, answer-EachPin}
 use Rattle.jf_answers.specs.Prunings.{next_floor}
 use Rattle.jf_answers.specs.Runs.{Run, answers_from, answers, answer_text, text_of, run_entries}
-use Rattle.jf_answers.specs.Explains.{Timeline, IsAmong, state_after, answered_with_floor, answer_with, floor_in, HasFloor, Answered, Looks, HasAnsweredChange, AreAnswered, text_in, places_in_reply, places_owned, timeline_of, Explains}
+use Rattle.jf_answers.specs.Explains.{Timeline, IsAmong, state_after, answered_with_floor, answer_with, floor_in, HasFloor, LineReply, IsQuietReply, HasAnsweredChange, AreAnswered, text_in, places_in_reply, places_owned, timeline_of, Explains}
 use Rattle.jf_answers.specs.Laws.{OneSessionExplainsItself, OneSessionExplainsAll}
 use Rattle.jf_answers.proofs.Pins.{EachNamed, EachNamed-one, IsFloor-next}
 
@@ -65,7 +65,7 @@ length-push es e = length-append es (e ∷ [])
 
 -- replies to the first of these lines, with the text of a run and the places of its entries
 record FirstReplies (h : Timeline) (own : Own) (seen : ℕ) (lines : List (List ℕ)) (run : Run) (left : List Entry) : Type 0 where
-  replies : List Answered
+  replies : List LineReply
   answered : AreAnswered h own seen lines replies
   text : text_in replies ≡ text_of run
   places : places_in_reply replies ≡ places_owned own.number seen left
@@ -116,7 +116,7 @@ module _ (h : Timeline) (s : State) (own : Own) (line : List ℕ) (lines : List 
       }
 
   looks : (done left : List Entry) → Stands h s own done left run → a.entry ≡ None
-      → Looks h own (length done) line (record { number = length done; text = answer_text (length done) a; entry = None; own = a.own })
+      → IsQuietReply h own (length done) line (record { number = length done; text = answer_text (length done) a; entry = None; own = a.own })
   looks done left w none =
       let back = sym (here done left w) in
       record {
@@ -165,7 +165,7 @@ module _ (h : Timeline) (s : State) (own : Own) (line : List ℕ) (lines : List 
       named = answer-EachPin (IsAmong h.pins) s own line named w.named;
     }
 
-    abbrev reply : Answered
+    abbrev reply : LineReply
     reply = record { number = length (done ++ e ∷ []); text = answer_text (length (done ++ e ∷ [])) a; entry = Some e; own = a.own }
 
     one_back : length (done ++ e ∷ []) - 1 ≡ length done

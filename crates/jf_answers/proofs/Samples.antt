@@ -25,7 +25,7 @@ use Rattle.jf_answers.specs.Refusals.{refused_by}
 use Rattle.jf_answers.specs.Answers.{Answer, answer, commit_answer, own_answer}
 use Rattle.jf_answers.specs.OwnLines.{is_own_line}
 use Rattle.jf_answers.specs.Runs.{answer_text}
-use Rattle.jf_answers.specs.Explains.{answer_with, answered_with_floor, Answered, IsAnswered, timeline_of, Explains, places_owned, IsSession}
+use Rattle.jf_answers.specs.Explains.{answer_with, answered_with_floor, LineReply, IsAnswered, timeline_of, Explains, places_owned, IsSession}
 
 -- a new store, and its root
 abbrev pub start : State
@@ -77,16 +77,16 @@ scripts = (codes "root head" ∷ codes "commit" ∷ []) ∷ (codes "commit" ∷ 
 abbrev pub said : ℕ → Reply → List ℕ
 said n r = reply_text n r ++ []
 
-abbrev looked : Answered
+abbrev looked : LineReply
 looked = record { number = 1; text = said 1 (reply.Root empty_root); entry = None; own = begun_session 0 }
 
-abbrev landed_second : Answered
+abbrev landed_second : LineReply
 landed_second = record { number = 2; text = said 2 (reply.Commit 2 empty_root); entry = Some second; own = begun_session 0 }
 
-abbrev landed_first : Answered
+abbrev landed_first : LineReply
 landed_first = record { number = 1; text = said 1 (reply.Commit 1 empty_root); entry = Some first; own = begun_session 1 }
 
-abbrev misspelt : Answered
+abbrev misspelt : LineReply
 misspelt = record { number = 1; text = said 1 (reply.No refusal.Syntax); entry = None; own = begun_session 1 }
 
 abbrev outputs : List (List ℕ)

@@ -61,14 +61,14 @@ pub record GivesEntry (h : Timeline) (s : State) (own : Own) (line : List ℕ) (
 
 -- ---- lines with their replies
 -- the reply to a line: the number in front, the text, the entry if the line gave one, and the own part after it
-pub record Answered : Type 0 where
+pub record LineReply : Type 0 where
   pub number : ℕ
   pub text : List ℕ
   pub entry : Option Entry
   pub own : Own
 
 -- a line that gives no entry has the reply computed from the first n entries; if it asks nothing of the store, n is the number of the reply before
-pub record Looks (h : Timeline) (own : Own) (seen : ℕ) (line : List ℕ) (r : Answered) : Type 0 where
+pub record IsQuietReply (h : Timeline) (own : Own) (seen : ℕ) (line : List ℕ) (r : LineReply) : Type 0 where
   pub quiet : (answer (state_after h r.number) own line).entry ≡ None
   pub text : r.text ≡ answer_text r.number (answer (state_after h r.number) own line)
   pub none : r.entry ≡ None
@@ -76,7 +76,7 @@ pub record Looks (h : Timeline) (own : Own) (seen : ℕ) (line : List ℕ) (r : 
   pub by_itself : IsTrue (is_own_line line) → r.number ≡ seen
 
 -- a line that gives an entry gives the n-th, later than any that the session had seen, and has the reply computed from the n - 1 entries before it
-pub record HasAnsweredChange (h : Timeline) (own : Own) (seen : ℕ) (line : List ℕ) (r : Answered) : Type 0 where
+pub record HasAnsweredChange (h : Timeline) (own : Own) (seen : ℕ) (line : List ℕ) (r : LineReply) : Type 0 where
   pub event : Entry
   pub later : seen < r.number
   pub stands : slice_get h.entries (r.number - 1) ≡ Some event
@@ -87,33 +87,33 @@ pub record HasAnsweredChange (h : Timeline) (own : Own) (seen : ℕ) (line : Lis
   pub own_after : r.own ≡ (answer_with (floor_in event) (state_after h (r.number - 1)) own line).own
 
 -- the reply to a line is explained, if the reply before has the number `seen`
-pub record IsAnswered (h : Timeline) (own : Own) (seen : ℕ) (line : List ℕ) (r : Answered) : Type 0 where
+pub record IsAnswered (h : Timeline) (own : Own) (seen : ℕ) (line : List ℕ) (r : LineReply) : Type 0 where
   pub rises : seen ≤ r.number
   pub within : r.number ≤ length h.entries
-  pub answered : Looks h own seen line r ⊎ HasAnsweredChange h own seen line r
+  pub answered : IsQuietReply h own seen line r ⊎ HasAnsweredChange h own seen line r
 
 -- the replies are those to the first lines, in turn
-abbrev pub AreAnswered : Timeline → Own → ℕ → List (List ℕ) → List Answered → Type 0
+abbrev pub AreAnswered : Timeline → Own → ℕ → List (List ℕ) → List LineReply → Type 0
 AreAnswered h own seen lines [] = Unit {0}
 AreAnswered h own seen [] (r ∷ rs) = ⊥
 AreAnswered h own seen (line ∷ lines) (r ∷ rs) = IsAnswered h own seen line r × AreAnswered h r.own r.number lines rs
 
 -- the own part after replies
-abbrev pub own_after_replies : Own → List Answered → Own
+abbrev pub own_after_replies : Own → List LineReply → Own
 own_after_replies own [] = own
 own_after_replies own (r ∷ rs) = own_after_replies r.own rs
 
 -- the number of the last reply, or `seen` if there is no reply
-abbrev pub seen_after_replies : ℕ → List Answered → ℕ
+abbrev pub seen_after_replies : ℕ → List LineReply → ℕ
 seen_after_replies seen [] = seen
 seen_after_replies seen (r ∷ rs) = seen_after_replies r.number rs
 
 -- the text of replies
-abbrev pub text_in : List Answered → List ℕ
+abbrev pub text_in : List LineReply → List ℕ
 text_in rs = concat (map (λ r. r.text) rs)
 
 -- the numbers of the replies to lines that gave an entry
-abbrev pub places_in_reply : List Answered → List ℕ
+abbrev pub places_in_reply : List LineReply → List ℕ
 places_in_reply [] = []
 places_in_reply (r ∷ rs) = if is_some r.entry then r.number ∷ places_in_reply rs else places_in_reply rs
 
@@ -124,24 +124,24 @@ places_owned s n (e ∷ es) = if owner_of e == s then (n + 1) ∷ places_owned s
 
 -- ---- sessions
 -- the first line without a reply
-abbrev pub next_line : List (List ℕ) → List Answered → Option (List ℕ)
+abbrev pub next_line : List (List ℕ) → List LineReply → Option (List ℕ)
 next_line lines rs = slice_get lines (length rs)
 
 -- the first line without a reply gave an entry too
-pub record GaveOneMore (h : Timeline) (s : ℕ) (lines : List (List ℕ)) (rs : List Answered) : Type 0 where
+pub record GaveOneMore (h : Timeline) (s : ℕ) (lines : List (List ℕ)) (rs : List LineReply) : Type 0 where
   pub line : List ℕ
   pub next : next_line lines rs ≡ Some line
-  pub unwritten : Answered
+  pub unwritten : LineReply
   pub changes : HasAnsweredChange h (own_after_replies (begun_session s) rs) (seen_after_replies 0 rs) line unwritten
   pub places : places_owned s 0 h.entries ≡ places_in_reply rs ++ unwritten.number ∷ []
 
 -- the entries of a session are those that its lines gave, each at its own place; a session that ran out of memory may have one more, without a reply
-pub record IsSession (h : Timeline) (out_of_memory : List ℕ) (s : ℕ) (lines : List (List ℕ)) (rs : List Answered) : Type 0 where
+pub record IsSession (h : Timeline) (out_of_memory : List ℕ) (s : ℕ) (lines : List (List ℕ)) (rs : List LineReply) : Type 0 where
   pub replies : AreAnswered h (begun_session s) 0 lines rs
   pub entries : (places_owned s 0 h.entries ≡ places_in_reply rs) ⊎ (IsAmong out_of_memory s × GaveOneMore h s lines rs)
 
 -- sessions from number s on, one for each script
-abbrev pub AreSessions : Timeline → List ℕ → ℕ → List (List (List ℕ)) → List (List Answered) → Type 0
+abbrev pub AreSessions : Timeline → List ℕ → ℕ → List (List (List ℕ)) → List (List LineReply) → Type 0
 AreSessions h out_of_memory s [] [] = Unit {0}
 AreSessions h out_of_memory s [] (rs ∷ rss) = ⊥
 AreSessions h out_of_memory s (lines ∷ scripts) [] = ⊥
@@ -152,19 +152,19 @@ abbrev pub timeline_of : State → List Entry → List (List (List ℕ)) → Tim
 timeline_of s entries scripts = record { start = s; entries = entries; pins = pins_of scripts }
 
 -- a legal history explains the replies to all sessions, and each entry was made by one of them
-pub record ExplainsAnswers (s : State) (entries : List Entry) (scripts : List (List (List ℕ))) (replies : List (List Answered)) (out_of_memory : List ℕ) : Type 0 where
+pub record ExplainsAnswers (s : State) (entries : List Entry) (scripts : List (List (List ℕ))) (replies : List (List LineReply)) (out_of_memory : List ℕ) : Type 0 where
   pub history : IsHistory s entries
   pub owners : AllByRecursion (λ e. owner_of e < length scripts) entries
   pub sessions : AreSessions (timeline_of s entries scripts) out_of_memory 0 scripts replies
 
 -- a legal history explains what all sessions wrote; the sessions of `out_of_memory` ran out of memory
 pub record Explains (s : State) (entries : List Entry) (scripts : List (List (List ℕ))) (outputs : List (List ℕ)) (out_of_memory : List ℕ) : Type 0 where
-  pub replies : List (List Answered)
+  pub replies : List (List LineReply)
   pub explained : ExplainsAnswers s entries scripts replies out_of_memory
   pub texts : outputs ≡ map text_in replies
 
 -- the entry that the first line without a reply would give over all entries
-pub record IsAttempt (h : Timeline) (s : ℕ) (lines : List (List ℕ)) (rs : List Answered) (e : Entry) : Type 0 where
+pub record IsAttempt (h : Timeline) (s : ℕ) (lines : List (List ℕ)) (rs : List LineReply) (e : Entry) : Type 0 where
   pub line : List ℕ
   pub next : next_line lines rs ≡ Some line
   pub gives : GivesEntry h (replay h.start h.entries) (own_after_replies (begun_session s) rs) line e

@@ -1,6 +1,6 @@
 -- A block read part by part is the block of the lines.
 use Rattle.std.proofs.Common.{◌≡◌, ℕ, zero, suc, ◌+◌, List, [], ◌∷◌, Option, Some, None, option_and_then, option_map, Ok, Err, refl, ap, ◌∙◌}
-use Rattle.jf_blocks.specs.Reading.{Block, Place, Read, and_then, gives, one_line_read, line_by, lines_by, line_read, named_of, claim_of, leaf_line_of, side_of, proof_block}
+use Rattle.jf_blocks.specs.Reading.{Block, LinePlace, ReadResult, and_then, gives, one_line_read, line_by, lines_by, line_read, named_of, claim_of, leaf_line_of, side_of, proof_block}
 use Rattle.jf_ask.specs.Lookups.{siblings_of, block_alone, block_of}
 use Rattle.jf_ask.specs.Parts.{first_by, sides_of, with_end, block_by_parts}
 
@@ -9,7 +9,7 @@ Lines = List (List ℕ)
 
 -- ---- one line
 -- two ways to go on after it agree, whatever was read and wherever the next line is
-module _ {X : Type 0} (F : X → Lines → Option Block) (G : X → Place → Read Block) (alike : (x : X) (at : ℕ) (ls : Lines) → F x ls ≡ block_alone (G x (record { at = at; left = ls }))) where
+module _ {X : Type 0} (F : X → Lines → Option Block) (G : X → LinePlace → ReadResult Block) (alike : (x : X) (at : ℕ) (ls : Lines) → F x ls ≡ block_alone (G x (record { at = at; left = ls }))) where
   matched-alike : (at : ℕ) (ls : Lines) (o : Option X) → option_and_then (λ (a : X × Lines). F a.0 a.1) (option_map (λ x. (x, ls)) o) ≡ block_alone (and_then (one_line_read at ls o) G)
   matched-alike at ls None = refl
   matched-alike at ls (Some x) = alike x (at + 1) ls
@@ -24,16 +24,16 @@ map_more : (F : Lines → Lines → Option Block) (s : List ℕ) (o : Option (Li
 map_more F s None = refl
 map_more F s (Some b) = refl
 
-read_more : (G : Lines → Place → Read Block) (s : List ℕ) (r : Read Lines) → and_then r (λ xs q. G (s ∷ xs) q) ≡ and_then (and_then r (λ xs q. gives (s ∷ xs) q)) G
+read_more : (G : Lines → LinePlace → ReadResult Block) (s : List ℕ) (r : ReadResult Lines) → and_then r (λ xs q. G (s ∷ xs) q) ≡ and_then (and_then r (λ xs q. gives (s ∷ xs) q)) G
 read_more G s (Ok p) = refl
 read_more G s (Err at) = refl
 
 -- siblings read by lines go on as those read by parts
 abbrev AreSidesAlike : ℕ → Type 0
-AreSidesAlike n = (at : ℕ) (ls : Lines) (F : Lines → Lines → Option Block) (G : Lines → Place → Read Block) → ((xs : Lines) (at' : ℕ) (ls' : Lines) → F xs ls' ≡ block_alone (G xs (record { at = at'; left = ls' })))
+AreSidesAlike n = (at : ℕ) (ls : Lines) (F : Lines → Lines → Option Block) (G : Lines → LinePlace → ReadResult Block) → ((xs : Lines) (at' : ℕ) (ls' : Lines) → F xs ls' ≡ block_alone (G xs (record { at = at'; left = ls' })))
     → option_and_then (λ (a : Lines × Lines). F a.0 a.1) (sides_of n ls) ≡ block_alone (and_then (lines_by side_of n (record { at = at; left = ls })) G)
 
-side-alike : (n : ℕ) → AreSidesAlike n → (at : ℕ) (ls : Lines) (o : Option (List ℕ)) (F : Lines → Lines → Option Block) (G : Lines → Place → Read Block) → ((xs : Lines) (at' : ℕ) (ls' : Lines) → F xs ls' ≡ block_alone (G xs (record { at = at'; left = ls' })))
+side-alike : (n : ℕ) → AreSidesAlike n → (at : ℕ) (ls : Lines) (o : Option (List ℕ)) (F : Lines → Lines → Option Block) (G : Lines → LinePlace → ReadResult Block) → ((xs : Lines) (at' : ℕ) (ls' : Lines) → F xs ls' ≡ block_alone (G xs (record { at = at'; left = ls' })))
     → option_and_then (λ (a : Lines × Lines). F a.0 a.1) (option_and_then (λ (a : List ℕ × Lines). option_map (λ (b : Lines × Lines). (a.0 ∷ b.0, b.1)) (sides_of n a.1)) (option_map (λ x. (x, ls)) o))
     ≡ block_alone (and_then (and_then (one_line_read at ls o) (λ x q. and_then (lines_by side_of n q) (λ xs r. gives (x ∷ xs) r))) G)
 side-alike n more at ls None F G alike = refl
@@ -61,13 +61,13 @@ with_leaf n name claim ls = option_and_then (λ (d : Option (List ℕ × List �
 abbrev with_claim : ℕ → List ℕ → Lines → Option Block
 with_claim n name ls = option_and_then (λ (c : Option (List ℕ) × Lines). with_leaf n name c.0 c.1) (first_by (line_read claim_of) ls)
 
-abbrev read_sides : ℕ → List ℕ → Option (List ℕ) → Option (List ℕ × List ℕ) → Place → Read Block
+abbrev read_sides : ℕ → List ℕ → Option (List ℕ) → Option (List ℕ × List ℕ) → LinePlace → ReadResult Block
 read_sides n name claim leaf s = and_then (lines_by side_of n s) (λ sides t. gives (name, claim, record { leaf = leaf; siblings = sides }) t)
 
-abbrev read_leaf : ℕ → List ℕ → Option (List ℕ) → Place → Read Block
+abbrev read_leaf : ℕ → List ℕ → Option (List ℕ) → LinePlace → ReadResult Block
 read_leaf n name claim r = and_then (line_by leaf_line_of r) (λ leaf s. read_sides n name claim leaf s)
 
-abbrev read_claim : ℕ → List ℕ → Place → Read Block
+abbrev read_claim : ℕ → List ℕ → LinePlace → ReadResult Block
 read_claim n name q = and_then (line_by claim_of q) (λ claim r. read_leaf n name claim r)
 
 body-alike : (n at : ℕ) (ls : Lines) → option_and_then (λ (b : List ℕ × Lines). with_claim n b.0 b.1) (first_by (line_read named_of) ls) ≡ block_alone (proof_block n (record { at = at; left = ls }))

@@ -14,7 +14,7 @@ use Rattle.jf_script.specs.Replies.{reply_text}
 use Rattle.jf_script.specs.declared.reply.Reply.TheVariants as reply
 use Rattle.jf_blocks.specs.Blocks.{proof_lines}
 use Rattle.jf_blocks.specs.Laws.{FitsProofBlock}
-use Rattle.jf_blocks.specs.Reading.{Block, Read, line_read, first_line_of, proof_block}
+use Rattle.jf_blocks.specs.Reading.{Block, ReadResult, line_read, first_line_of, proof_block}
 use Rattle.jf_blocks.specs.declared.first.FirstLine.{FirstLine}
 use Rattle.jf_blocks.specs.declared.first.FirstLine.TheVariants as first
 use Rattle.jf_ask.specs.declared.lookup.Lookup.{Lookup}
@@ -33,7 +33,7 @@ abbrev pub siblings_of : List ℕ → Option ℕ
 siblings_of line = siblings_in (line_read first_line_of line)
 
 -- a block that was read, if no line comes after it
-abbrev pub block_alone : Read Block → Option Block
+abbrev pub block_alone : ReadResult Block → Option Block
 block_alone (Err at) = None
 block_alone (Ok p) = elim p.1.left [ [] ↦ Some p.0 | line ∷ rest ↦ None ]
 

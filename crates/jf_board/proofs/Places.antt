@@ -8,7 +8,7 @@ use Rattle.jf_path.specs.Limits.{max_pins}
 use Rattle.atomic_table.proofs.Lists.{at_longer, at_last}
 use Rattle.atomic_table.specs.Table.{step, keeps, Allows}
 use Rattle.jf_board.specs.declared.views.Hold.{Hold}
-use Rattle.jf_board.specs.Rule.{Account, PlaceFits, JoinedFit, Has, ViewFits, Listed, Below, IsSoundAccount, word_of, IsWritten, IsBoard}
+use Rattle.jf_board.specs.Rule.{Account, PlaceFits, JoinedFit, Has, ViewFits, IsListed, Below, IsSoundAccount, word_of, IsWritten, IsBoard}
 use Rattle.jf_board.specs.declared.views.PlaceView.{PlaceView}
 use Rattle.jf_board.specs.Steps.{AnnouncesVersion, with_announcement, BoardSeat, confirmed_from, with_confirmation, LoadsGate, with_hold, WithdrawsVersion}
 use Rattle.jf_board.specs.declared.views.View.{View}
@@ -54,13 +54,13 @@ pinned_else p n i h vs id (Prunes q) small other grows r = record {
 pinned_else p n i h vs id Spent small other grows r = tt
 
 -- what is listed stays listed in a longer list
-listed_grows : (us vs : List ℕ) (h : Hold) → ((x : ℕ) → Has us x → Has vs x) → Listed us h → Listed vs h
+listed_grows : (us vs : List ℕ) (h : Hold) → ((x : ℕ) → Has us x → Has vs x) → IsListed us h → IsListed vs h
 listed_grows us vs Free grows l = tt
 listed_grows us vs (Announced x) grows l = grows x l
 listed_grows us vs (Confirmed x) grows l = grows x l
 
 -- after a change of one hold, cut and low are at most what is confirmed
-sound_pinned : (p : Account) (n i : ℕ) (h : Hold) (vs : List ℕ) → i < max_pins → n < p.count → Below p.cut h → (max_pins * n + i < p.scanned → Below p.low h) → Listed vs h → ((x : ℕ) → Has (p.versions n) x → Has vs x) → IsSoundAccount p → IsSoundAccount (pinned_account p n i h vs)
+sound_pinned : (p : Account) (n i : ℕ) (h : Hold) (vs : List ℕ) → i < max_pins → n < p.count → Below p.cut h → (max_pins * n + i < p.scanned → Below p.low h) → IsListed vs h → ((x : ℕ) → Has (p.versions n) x → Has vs x) → IsSoundAccount p → IsSoundAccount (pinned_account p n i h vs)
 sound_pinned p n i h vs small given cut low listed grows r = let K : ℕ = max_pins * n + i in let nth : (max_pins * n + i) / max_pins ≡ n = omega arith in record {
   cut_gate = r.cut_gate;
   cut_pins = λ k. put_keeps (Below p.cut) p.hold K h k (λ _. cut) (λ _. r.cut_pins k);
@@ -68,9 +68,9 @@ sound_pinned p n i h vs small given cut low listed grows r = let K : ℕ = max_p
   low_pins = λ k l. put_keeps (Below p.low) p.hold K h k (λ e. low (subst (λ (z : ℕ). z < p.scanned) e l)) (λ _. r.low_pins k l);
   unnumbered = λ k l. put_else p.hold K h k (λ e. omega arith) ∙ r.unnumbered k l;
   no_versions = λ m l. put_else p.versions n vs m (λ e. omega arith) ∙ r.no_versions m l;
-  listed = λ k. put_keeps (λ (x : Hold). Listed (put p.versions n vs (k / max_pins)) x) p.hold K h k
-      (λ e. subst (λ (xs : List ℕ). Listed xs h) (sym (put_at p.versions n vs (k / max_pins) (ap (λ (z : ℕ). z / max_pins) e ∙ nth))) listed)
-      (λ _. put_keeps (λ (xs : List ℕ). Listed xs (p.hold k)) p.versions n vs (k / max_pins) (λ e. listed_grows (p.versions n) vs (p.hold k) grows (subst (λ (z : ℕ). Listed (p.versions z) (p.hold k)) e (r.listed k))) (λ _. r.listed k));
+  listed = λ k. put_keeps (λ (x : Hold). IsListed (put p.versions n vs (k / max_pins)) x) p.hold K h k
+      (λ e. subst (λ (xs : List ℕ). IsListed xs h) (sym (put_at p.versions n vs (k / max_pins) (ap (λ (z : ℕ). z / max_pins) e ∙ nth))) listed)
+      (λ _. put_keeps (λ (xs : List ℕ). IsListed xs (p.hold k)) p.versions n vs (k / max_pins) (λ e. listed_grows (p.versions n) vs (p.hold k) grows (subst (λ (z : ℕ). IsListed (p.versions z) (p.hold k)) e (r.listed k))) (λ _. r.listed k));
 }
 
 -- the words after a change of one pin word
@@ -145,9 +145,9 @@ judged_below m gate (Announced v) le b = ⊎_elim (λ (t : (leb gate v ≡ true)
 judged_below m gate (Confirmed v) le b = b
 
 -- confirming changes no version
-judged_listed : (vs : List ℕ) (gate : ℕ) (h : Hold) → Listed vs h → Listed vs (confirmed_from gate h)
+judged_listed : (vs : List ℕ) (gate : ℕ) (h : Hold) → IsListed vs h → IsListed vs (confirmed_from gate h)
 judged_listed vs gate Free l = l
-judged_listed vs gate (Announced v) l = elim (leb gate v) as (λ b. Listed vs (cond b (Confirmed v) (Announced v))) [ true ↦ l | false ↦ l ]
+judged_listed vs gate (Announced v) l = elim (leb gate v) as (λ b. IsListed vs (cond b (Confirmed v) (Announced v))) [ true ↦ l | false ↦ l ]
 judged_listed vs gate (Confirmed v) l = l
 
 -- a place announced all that was announced at its number
@@ -159,8 +159,8 @@ pub owner_of : (n i : ℕ) → i < max_pins → (max_pins * n + i) / max_pins �
 owner_of n i small = omega arith
 
 -- a place announced each version that it holds
-hold_listed : (p : Account) (id : ℕ) (v : PlaceView) (i : ℕ) → i < max_pins → IsSoundAccount p → PlaceFits p id v → Listed v.announced (p.hold (max_pins * v.number + i))
-hold_listed p id v i small sound r = subst (λ (xs : List ℕ). Listed xs (p.hold (max_pins * v.number + i))) (ap p.versions (owner_of v.number i small) ∙ sym r.announced) (sound.listed (max_pins * v.number + i))
+hold_listed : (p : Account) (id : ℕ) (v : PlaceView) (i : ℕ) → i < max_pins → IsSoundAccount p → PlaceFits p id v → IsListed v.announced (p.hold (max_pins * v.number + i))
+hold_listed p id v i small sound r = subst (λ (xs : List ℕ). IsListed xs (p.hold (max_pins * v.number + i))) (ap p.versions (owner_of v.number i small) ∙ sym r.announced) (sound.listed (max_pins * v.number + i))
 
 -- a place may load the gate
 pub confirms : (passes slots id : ℕ) (me : BoardSeat) (v : PlaceView) → me.0 ≡ Pins v → Allows (IsBoard passes) slots id me 0 (λ x. x) (LoadsGate (step slots 0 0 0 none) me)
@@ -174,7 +174,7 @@ confirms passes slots id me v is s r _ at _ =
       keeps,
       tt,
       unmoved passes s r (pinned_account p v.number i h v.announced) 0 id me.0 (Pins w) at (same_word passes p v.number i h v.announced s.words (judged_word g x ∙ ap word_of was) r.written)
-          (sound_pinned p v.number i h v.announced small given (under p.cut (omega arith) (r.sound.cut_pins K)) low_below (judged_listed v.announced g x (subst (Listed v.announced) (sym was) (hold_listed p id v i small r.sound fit))) (said_same p id v fit) r.sound)
+          (sound_pinned p v.number i h v.announced small given (under p.cut (omega arith) (r.sound.cut_pins K)) low_below (judged_listed v.announced g x (subst (IsListed v.announced) (sym was) (hold_listed p id v i small r.sound fit))) (said_same p id v fit) r.sound)
           r.few (placed_here p id i h v.announced g i v small small (omega arith) fit) (λ j u other f. pinned_else p v.number i h v.announced j u small (λ e. other (sym e ∙ fit.mine)) (said_same p id v fit) f),
       λ v' is'. let same : Pins v ≡ Pins v' = sym is ∙ is' in let vv : v ≡ v' = cc in ap (λ (z : PlaceView). with_view (Pins (with_confirmation z g)) me) vv,
     )

@@ -5,7 +5,7 @@ use native.Mathlib.Decide.{dec_lt, ℕ_discrete}
 use Rattle.std.proofs.Common.{ℕ, ◌≤◌, arith, List, [], ◌∷◌, ◌≢◌, ◌+◌, ◌-◌, set, ◌∙◌, length-set, get_or-set_other, get_or-set_same, ◌≡◌, sym, refl, ap, le_refl, ◌⊎◌, subst, ⊎_elim, max, ◌*◌, length, ◌/◌, ◌<◌, get_or, length-append}
 use Rattle.jf_path.specs.Limits.{max_pins}
 use Rattle.atomic_table.specs.Table.{step, keeps, Allows}
-use Rattle.jf_board.specs.Rule.{Account, PlaceFits, JoinedFit, ViewFits, IsWritten, IsBoard, Below, least, word_of, lower, Has, Listed}
+use Rattle.jf_board.specs.Rule.{Account, PlaceFits, JoinedFit, ViewFits, IsWritten, IsBoard, Below, least, word_of, lower, Has, IsListed}
 use Rattle.jf_board.specs.Steps.{LoadsPinWord, with_gate, gate_raised, BoardSeat, cut_made, JoinedHold, BelowJoined, with_loaded_word}
 use Rattle.jf_board.specs.declared.views.PlaceView.{PlaceView}
 use Rattle.jf_board.specs.declared.views.View.{View}
@@ -108,7 +108,7 @@ below_lower m x (Announced v) e = tt
 below_lower m x (Confirmed v) e = let l = lower_word m x (omega arith) in omega arith
 
 -- the version of a word that is listed
-has_version : (vs : List ℕ) (x : ℕ) (h : Hold) → x ≡ word_of h → x ≢ 0 → Listed vs h → Has vs (x - 1)
+has_version : (vs : List ℕ) (x : ℕ) (h : Hold) → x ≡ word_of h → x ≢ 0 → IsListed vs h → Has vs (x - 1)
 has_version vs x Free e n l = absurd (n e)
 has_version vs x (Announced v) e n l = subst (Has vs) (omega arith) l
 has_version vs x (Confirmed v) e n l = subst (Has vs) (omega arith) l

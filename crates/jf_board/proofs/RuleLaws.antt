@@ -8,7 +8,7 @@ use Rattle.jf_board.specs.declared.views.PlaceView.{PlaceView}
 use Rattle.jf_board.specs.declared.views.PrunerView.{PrunerView}
 use Rattle.jf_board.specs.declared.views.View.{View}
 use Rattle.jf_board.specs.declared.views.View.TheVariants.{Pins, Prunes, Spent}
-use Rattle.jf_board.specs.Rule.{BoardState, IsBoard, Account, PlaceFits, PrunerFits, JoinedFit, IsAbsent, ViewFits, IsPlaceIn, StandsAt, PrunesAt, Below, Has, Listed, word_of, hold_at, cut_in, count_in, pin_word, CutIsLow, WordsAreHolds, PrunerKnows, LoadedGatesAreLow, PairsAreAnnounced}
+use Rattle.jf_board.specs.Rule.{BoardState, IsBoard, Account, PlaceFits, PrunerFits, JoinedFit, IsAbsent, ViewFits, IsPlaceIn, StandsAt, PrunesAt, Below, Has, IsListed, word_of, hold_at, cut_in, count_in, pin_word, CutIsLow, WordsAreHolds, PrunerKnows, LoadedGatesAreLow, PairsAreAnnounced}
 use Rattle.jf_board.proofs.Moving.{number_given}
 use Rattle.jf_board.proofs.Places.{owner_of}
 
@@ -81,9 +81,9 @@ one_seat : (passes : ℕ) (s : BoardState) (r : IsBoard passes s) (id j : ℕ) (
 one_seat passes s r id j v u at at' e = sym (stands passes s r id v at).mine ∙ (ap r.account.seat e ∙ (stands passes s r j u at').mine)
 
 -- a place announced each version that it holds
-listed_at : (passes : ℕ) (s : BoardState) (r : IsBoard passes s) (id : ℕ) (v : PlaceView) → StandsAt s id v → (i : ℕ) → i < max_pins → Listed v.announced (hold_at v i)
+listed_at : (passes : ℕ) (s : BoardState) (r : IsBoard passes s) (id : ℕ) (v : PlaceView) → StandsAt s id v → (i : ℕ) → i < max_pins → IsListed v.announced (hold_at v i)
 listed_at passes s r id v at i small = let fit = stands passes s r id v at in
-    subst (λ (z : List ℕ × Hold). Listed z.0 z.1) (λ k. ((ap r.account.versions (owner_of v.number i small) ∙ sym fit.announced) k, sym (fit.holds i small) k)) (r.sound.listed (max_pins * v.number + i))
+    subst (λ (z : List ℕ × Hold). IsListed z.0 z.1) (λ k. ((ap r.account.versions (owner_of v.number i small) ∙ sym fit.announced) k, sym (fit.holds i small) k)) (r.sound.listed (max_pins * v.number + i))
 
 -- point 2 of the rule: pin words are what places hold
 pub IsBoard-words_are_holds : (passes : ℕ) (s : BoardState) → IsBoard passes s → WordsAreHolds s

@@ -54,10 +54,10 @@ abbrev pub Has : {A : Type 0} → List A → A → Type 0
 Has xs x = (k : ℕ) × (get_elem? xs k ≡ some x)
 
 -- the version that is announced or confirmed, if there is one, stands in the list
-abbrev pub Listed : List ℕ → Hold → Type 0
-Listed vs Free = Unit {0}
-Listed vs (Announced v) = Has vs v
-Listed vs (Confirmed v) = Has vs v
+abbrev pub IsListed : List ℕ → Hold → Type 0
+IsListed vs Free = Unit {0}
+IsListed vs (Announced v) = Has vs v
+IsListed vs (Confirmed v) = Has vs v
 
 -- the lesser of m and the version that the word pins
 abbrev pub lower : ℕ → ℕ → ℕ
@@ -97,7 +97,7 @@ pub record WordsAreHolds (s : BoardState) : Type 0 where
   pub unnumbered : (n i : ℕ) → count_in s ≤ n → max_pins * n + i + 3 < length s.words → pin_word s n i ≡ 0
   pub apart : (id j : ℕ) (v u : PlaceView) → StandsAt s id v → StandsAt s j u → v.number ≡ u.number → (id ≡ j) × (v ≡ u)
   pub numbered : (id : ℕ) (v : PlaceView) → StandsAt s id v → v.number < count_in s
-  pub listed : (id : ℕ) (v : PlaceView) → StandsAt s id v → (i : ℕ) → i < max_pins → Listed v.announced (hold_at v i)
+  pub listed : (id : ℕ) (v : PlaceView) → StandsAt s id v → (i : ℕ) → i < max_pins → IsListed v.announced (hold_at v i)
 
 -- 3. the pruner's gate and cut are the words; its low is at most the gate, and at most each confirmed version whose word was scanned
 pub record PrunerKnows (s : BoardState) : Type 0 where
@@ -144,7 +144,7 @@ pub record IsSoundAccount (p : Account) : Type 0 where
   pub low_pins : (k : ℕ) → k < p.scanned → Below p.low (p.hold k)
   pub unnumbered : (k : ℕ) → max_pins * p.count ≤ k → p.hold k ≡ Free
   pub no_versions : (n : ℕ) → p.count ≤ n → p.versions n ≡ []
-  pub listed : (k : ℕ) → Listed (p.versions (k / max_pins)) (p.hold k)
+  pub listed : (k : ℕ) → IsListed (p.versions (k / max_pins)) (p.hold k)
 
 -- a place agrees with the account
 pub record PlaceFits (p : Account) (id : ℕ) (v : PlaceView) : Type 0 where

@@ -4,12 +4,12 @@ use Rattle.std.proofs.Common.{◌≡◌, ℕ, List, [], ◌∷◌, length, ap, a
 use Rattle.jf_disk.specs.Disk.{Files}
 use Rattle.jf_disk.specs.Missing.{files_found}
 use Rattle.jf_model.specs.Nodes.{kept_nodes}
-use Rattle.jf_frame.specs.Framed.{Framed}
+use Rattle.jf_frame.specs.Framed.{FramedRecord}
 use Rattle.jf_pair.proofs.FileLaws.{holds_one}
 use Rattle.jf_codec.specs.declared.format.Format.{Format}
 use Rattle.jf_codec.specs.declared.format.Format.TheVariants as format
 use Rattle.jf_payload.specs.Spelling.{live_bytes}
-use Rattle.jf_standing.specs.Named.{Named}
+use Rattle.jf_standing.specs.Named.{NamedNode}
 use Rattle.jf_standing.specs.Standing.{Standing}
 use Rattle.jf_standing.specs.FormatLaws.{standing_in}
 use Rattle.jf_standing.specs.Building.{nodes_by_name}
@@ -30,14 +30,14 @@ use Rattle.jf_check.proofs.Sizes.{file_long, nodes_same}
 -- standings of which a format keeps the same have files of one size
 same_size : (fmt : Format) (s t : Standing) → IsSound format.Two s → IsReadStanding s → IsSound format.Two t → IsReadStanding t → standing_in fmt s ≡ standing_in fmt t → length (checkpoint_file 1 s) ≡ length (checkpoint_file 1 t)
 same_size fmt s t sound_s read_s sound_t read_t same =
-    let size : List Named → ℕ = λ ns. length (flat_map (live_bytes format.Two) ns) in
+    let size : List NamedNode → ℕ = λ ns. length (flat_map (live_bytes format.Two) ns) in
     let nodes : size (nodes_by_name s.nodes) ≡ size (nodes_by_name t.nodes) =
     ap size (nodes-ordered s read_s sound_s) ∙ sym (nodes_same fmt s.nodes) ∙ ap (λ (u : Standing). size u.nodes) same ∙ nodes_same fmt t.nodes ∙ sym (ap size (nodes-ordered t read_t sound_t)) in
     let roots : length (flat_map (λ h. h) (reverse s.roots)) ≡ length (flat_map (λ h. h) (reverse t.roots)) = ap (λ (u : Standing). length (flat_map (λ (h : List ℕ). h) (reverse u.roots))) same in
     omega (arith, file_long 1 s, file_long 1 t, nodes, roots)
 
 module _ (leads_to_one : ItemsLeadToOne) (known : SpelledIsRead) where
-  counted_once : (rs : List Framed) (s t : Standing) → LeadToCounted rs s → LeadToCounted rs t → IsSound format.Two s → IsReadStanding s → IsSound format.Two t → IsReadStanding t → length (checkpoint_file 1 s) ≡ length (checkpoint_file 1 t)
+  counted_once : (rs : List FramedRecord) (s t : Standing) → LeadToCounted rs s → LeadToCounted rs t → IsSound format.Two s → IsReadStanding s → IsSound format.Two t → IsReadStanding t → length (checkpoint_file 1 s) ≡ length (checkpoint_file 1 t)
   counted_once [] s t a b sound_s read_s sound_t read_t = ap (λ (u : Standing). length (checkpoint_file 1 u)) (a ∙ sym b)
   counted_once (x ∷ xs) s t a b sound_s read_s sound_t read_t =
       let same = one_format b.0 a.0 (sym b.1.0 ∙ a.1.0) in

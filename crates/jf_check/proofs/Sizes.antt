@@ -15,7 +15,7 @@ use Rattle.jf_codec.specs.Counted.{in_format, uncounted_child}
 use Rattle.jf_payload.specs.Spelling.{live_bytes, record_bytes, checkpoint_kind}
 use Rattle.jf_payload.specs.declared.records.Record.TheVariants as «record»
 use Rattle.jf_payload.specs.Counted.{nodes_in}
-use Rattle.jf_standing.specs.Named.{Named}
+use Rattle.jf_standing.specs.Named.{NamedNode}
 use Rattle.jf_standing.specs.Standing.{Standing}
 use Rattle.jf_standing.specs.Building.{checkpoint_of, nodes_by_name}
 use Rattle.jf_check.specs.Stores.{checkpoint_file}
@@ -40,16 +40,16 @@ node_same format.One (node.Leaf key value) = refl
 node_same format.One (node.Inner cs) = omega (arith, inner_long cs, inner_long (map uncounted_child cs), children_same cs)
 node_same format.Two n = refl
 
-live_same : (fmt : Format) (n : Named) → length (live_bytes format.Two (n.0, in_format fmt n.1, n.2)) ≡ length (live_bytes format.Two n)
+live_same : (fmt : Format) (n : NamedNode) → length (live_bytes format.Two (n.0, in_format fmt n.1, n.2)) ≡ length (live_bytes format.Two n)
 live_same fmt n = omega (arith, length-append {A = ℕ}, node_same fmt n.1)
 
-pub nodes_same : (fmt : Format) (ns : List Named) → length (flat_map (live_bytes format.Two) (nodes_in fmt ns)) ≡ length (flat_map (live_bytes format.Two) ns)
+pub nodes_same : (fmt : Format) (ns : List NamedNode) → length (flat_map (live_bytes format.Two) (nodes_in fmt ns)) ≡ length (flat_map (live_bytes format.Two) ns)
 nodes_same fmt [] = refl
 nodes_same fmt (n ∷ ns) =
     omega (arith, length-append (live_bytes format.Two (n.0, in_format fmt n.1, n.2)) (flat_map (live_bytes format.Two) (nodes_in fmt ns)), length-append (live_bytes format.Two n) (flat_map (live_bytes format.Two) ns), live_same fmt n, nodes_same fmt ns)
 
 -- ---- files
-payload_long : (g b f h : ℕ) (roots : List (List ℕ)) (nodes : List Named) → length (record_bytes format.Two («record».Checkpoint g b f h roots nodes)) ≡ 40 + length (flat_map (λ h. h) roots) + length (flat_map (live_bytes format.Two) nodes)
+payload_long : (g b f h : ℕ) (roots : List (List ℕ)) (nodes : List NamedNode) → length (record_bytes format.Two («record».Checkpoint g b f h roots nodes)) ≡ 40 + length (flat_map (λ h. h) roots) + length (flat_map (live_bytes format.Two) nodes)
 unfolding record_bytes
 payload_long g b f h roots nodes = omega (arith, length-append {A = ℕ}, length-eight)
 

@@ -7,7 +7,7 @@ use Rattle.jf_evidence.specs.Proofs.{refusal}
 use Rattle.jf_evidence.specs.declared.proof.ProofFault.{ProofFault}
 use Rattle.jf_collide.specs.declared.judged.Judged.{Judged}
 use Rattle.jf_text.specs.Words.{line_text}
-use Rattle.jf_blocks.specs.Reading.{line_read, first_line_of, Place, proof_block, first_place}
+use Rattle.jf_blocks.specs.Reading.{line_read, first_line_of, LinePlace, proof_block, first_place}
 use Rattle.jf_blocks.specs.declared.first.FirstLine.TheVariants as first
 use Rattle.jf_multi.specs.Verdicts.{many_refusal}
 use Rattle.jf_many_blocks.specs.ManyBlocks.{on_keys}
@@ -27,7 +27,7 @@ root_step n at j line ls root e =
 abbrev pub knows : List ℕ → List Accepted → Judging
 knows root claims = record { root = Some root; claims = claims }
 
-pub block_step : (n at : ℕ) (root : List ℕ) (claims : List Accepted) (line : List ℕ) (ls : List (List ℕ)) (k : ℕ) (name : List ℕ) (claim : Option (List ℕ)) (proof : Proof) (place : Place)
+pub block_step : (n at : ℕ) (root : List ℕ) (claims : List Accepted) (line : List ℕ) (ls : List (List ℕ)) (k : ℕ) (name : List ℕ) (claim : Option (List ℕ)) (proof : Proof) (place : LinePlace)
     → line_read first_line_of line ≡ Some (first.Proof k) → proof_block k (record { at = at + 1; left = ls }) ≡ Ok ((name, claim, proof), place)
     → verdicts_from (suc n) (knows root claims) (record { at = at; left = line ∷ ls })
     ≡ (judgement_under root claims (judged_of (name, claim, proof))).0 ++ verdicts_from n (knows root (judgement_under root claims (judged_of (name, claim, proof))).1) place
@@ -36,7 +36,7 @@ block_step n at root claims line ls k name claim proof place e read =
     ap (λ o. let s = say (knows root claims) (record { at = at; left = line ∷ ls }) (record { at = at + 1; left = ls }) o in s.text ++ verdicts_from n s.known s.place) (opening-first line (first.Proof k) e)
     ∙ ap (λ r. let s = say_block root (knows root claims) (record { at = at; left = line ∷ ls }) r in s.text ++ verdicts_from n s.known s.place) read
 
-pub many_step : (n at : ℕ) (root : List ℕ) (claims : List Accepted) (line : List ℕ) (ls : List (List ℕ)) (head : ManyHead) (block : ManyBlock) (place : Place)
+pub many_step : (n at : ℕ) (root : List ℕ) (claims : List Accepted) (line : List ℕ) (ls : List (List ℕ)) (head : ManyHead) (block : ManyBlock) (place : LinePlace)
     → line_read many_of line ≡ Some head → many_body head (record { at = at + 1; left = ls }) ≡ Ok (block, place)
     → verdicts_from (suc n) (knows root claims) (record { at = at; left = line ∷ ls }) ≡ many_verdict_text (many_refusal root (on_keys block.0) block.1) ++ verdicts_from n (knows root claims) place
 unfolding verdicts_from

@@ -20,7 +20,7 @@ use Rattle.jf_blocks.specs.declared.first.FirstLine.TheVariants as first
 use Rattle.jf_blocks.proofs.BlocksReadBack.{left_out}
 use Rattle.jf_blocks.proofs.LinesJoined.{lines-join}
 use Rattle.jf_verify.specs.Openings.{opening_of}
-use Rattle.jf_client.specs.RunLaws.{Heard, answer_heard, text_heard, verdict_with_block, IsOther}
+use Rattle.jf_client.specs.RunLaws.{LineInState, answer_heard, text_heard, verdict_with_block, IsOther}
 use Rattle.jf_client.proofs.Openings.{first_from, opening-none, number-many}
 use Rattle.jf_script.proofs.ReplyTexts.{all_plain-words, reply_words-front, reply_words-root, reply_words-proof}
 
@@ -137,7 +137,7 @@ reply_lines_of : (n : ℕ) (r : Reply) → n < 2 ^ 64 → verdict_with_block r �
 unfolding reply_text
 reply_lines_of n r small unjudged range = one_line_of (decimal n) (reply_words r) (is_plain-decimal n small) (all_plain-words r range) (number-many n small) (other_first n r small unjudged range)
 
-pub other_lines_of : (h : Heard) → h.number < 2 ^ 64 → IsOther h → (xs : List (List ℕ)) × AreLinesOf (text_heard h) xs
+pub other_lines_of : (h : LineInState) → h.number < 2 ^ 64 → IsOther h → (xs : List (List ℕ)) × AreLinesOf (text_heard h) xs
 other_lines_of h small o =
     let a = answer_heard h in
     let line : List (List ℕ) = join_with_byte 32 (decimal h.number ∷ reply_words a.reply) ∷ [] in

@@ -24,7 +24,7 @@ use Rattle.jf_script.specs.declared.command.Command.TheVariants as command
 use Rattle.jf_script.specs.declared.reply.Reply.TheVariants as reply
 use Rattle.jf_script.specs.Replies.{reply_text}
 use Rattle.jf_blocks.specs.Blocks.{chunk_lines}
-use Rattle.jf_blocks.specs.Reading.{Read, Chunk, Place, and_then, one_line_read, line_read, chunk_of, chunk_body}
+use Rattle.jf_blocks.specs.Reading.{ReadResult, Chunk, LinePlace, and_then, one_line_read, line_read, chunk_of, chunk_body}
 use Rattle.jf_blocks.specs.Laws.{IsHash, IsChunkBlock, ChunksAreReadBack, RepliesBeginChunks, head}
 use Rattle.jf_blocks.specs.declared.chunk.ChunkHead.{ChunkHead}
 use Rattle.jf_blocks.proofs.Bounds.{Bounded, chunk_body-bounded}
@@ -123,14 +123,14 @@ module _ (back : ChunksAreReadBack) (begins : RepliesBeginChunks) (accepted : Ho
     unfolding chunks_from
     block_taken n at =
         let known : Entries = take start (entries m) in
-        let after : Place = record { at = at + 1 + length (es m start count) + length (proof m start count).siblings; left = lines rest } in
+        let after : LinePlace = record { at = at + 1 + length (es m start count) + length (proof m start count).siblings; left = lines rest } in
         let goes : Entries → Result Entries BlockFault = λ all. chunks_from n (root m) all after in
         ap (λ (ls : List (List ℕ)). chunks_from (suc n) (root m) known (record { at = at; left = ls })) first.1
         ∙ ap (λ (o : Option ChunkHead). elim (and_then (one_line_read at (lines (block ++ rest)) o) chunk_body) as (λ x. Result Entries BlockFault) [
           | Err e ↦ Err (block_fault.Line e)
           | Ok b ↦ elim (accepted_chunk (root m) at known b.0) as (λ x. Result Entries BlockFault) [ Err why ↦ Err why | Ok all ↦ chunks_from n (root m) all b.1 ]
         ]) first.2
-        ∙ ap (λ (r : Read Chunk). elim r as (λ x. Result Entries BlockFault) [
+        ∙ ap (λ (r : ReadResult Chunk). elim r as (λ x. Result Entries BlockFault) [
           | Err e ↦ Err (block_fault.Line e)
           | Ok b ↦ elim (accepted_chunk (root m) at known b.0) as (λ x. Result Entries BlockFault) [ Err why ↦ Err why | Ok all ↦ chunks_from n (root m) all b.1 ]
         ]) (read (at + 1))

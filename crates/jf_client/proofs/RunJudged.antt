@@ -23,7 +23,7 @@ use Rattle.jf_script.specs.declared.command.Command.{Command}
 use Rattle.jf_script.specs.declared.command.Command.TheVariants as command
 use Rattle.jf_script.specs.declared.reply.Reply.TheVariants as reply
 use Rattle.jf_blocks.specs.Blocks.{proof_lines}
-use Rattle.jf_blocks.specs.Reading.{Place, line_read, first_line_of, proof_block}
+use Rattle.jf_blocks.specs.Reading.{LinePlace, line_read, first_line_of, proof_block}
 use Rattle.jf_blocks.specs.Laws.{BlocksAreReadBack, RepliesBeginBlocks, RepliesSetRoots}
 use Rattle.jf_blocks.specs.declared.first.FirstLine.TheVariants as first
 use Rattle.jf_verify.specs.Verdicts.{Judging, say, syntax_text, verdicts_from, verdicts, judged_of, nothing_known}
@@ -33,7 +33,7 @@ use Rattle.jf_answers.specs.Refusals.{base_map}
 use Rattle.jf_answers.specs.Answers.{Answer, granted_answer, own_answer, read_answer}
 use Rattle.jf_answers.specs.Runs.{answer_text}
 use Rattle.jf_answers.proofs.AnswerLaws.{unrefused}
-use Rattle.jf_client.specs.RunLaws.{Heard, answer_heard, text_heard, verdict_with_block, syntax_lines, judged_from, question_in, map_in, Asks, AsksRoot, AsksProof, IsOther, AreHeardOn, IsAskedOf, WholeRunsAreJudged}
+use Rattle.jf_client.specs.RunLaws.{LineInState, answer_heard, text_heard, verdict_with_block, syntax_lines, judged_from, question_in, map_in, Asks, AsksRoot, AsksProof, IsOther, AreHeardOn, IsAskedOf, WholeRunsAreJudged}
 use Rattle.jf_client.proofs.Told.{hash_of_key, honest-told}
 use Rattle.jf_client.proofs.Judged.{root_step, block_step, end_step, knows}
 use Rattle.jf_client.proofs.Replies.{answered}
@@ -70,7 +70,7 @@ granted-read (command.Pin version) q s own e = absurd (cc)
 granted-read (command.Change c) q s own e = absurd (cc)
 
 -- the answer to a line that asks a question
-pub answer_asked : (q : Question) (m : Map) (h : Heard) → Asks q m h → answer_heard h ≡ read_answer q m h.state h.own
+pub answer_asked : (q : Question) (m : Map) (h : LineInState) → Asks q m h → answer_heard h ≡ read_answer q m h.state h.own
 answer_asked q m h a =
     answered h.state h.own h.line a.read a.short a.is ∙ unrefused h.state h.own a.read a.granted ∙ granted-read a.read q h.state h.own a.reads
     ∙ ap (λ (w : Map). read_answer q w h.state h.own) a.map_is
@@ -79,10 +79,10 @@ answer_asked q m h a =
 -- `asked` holds of the maps whose roots all lines ask for, those judged before included
 module _ (back : BlocksAreReadBack) (begins : RepliesBeginBlocks) (sets : RepliesSetRoots) (accepted : HonestClaimsAreAccepted) (asked : Map → Type 0)
     (one_map : (m m' : Map) → asked m → asked m' → root m ≡ root m' → m ≡ m') where
-  root_text : (m : Map) (h : Heard) → AsksRoot m h → answer_heard h ≡ own_answer (reply.Root (root m)) h.state h.own
+  root_text : (m : Map) (h : LineInState) → AsksRoot m h → answer_heard h ≡ own_answer (reply.Root (root m)) h.state h.own
   root_text m h a = answer_asked question.Root m h a.asks
 
-  proof_text : (m : Map) (h : Heard) (a : AsksProof m h) → answer_heard h ≡ read_answer (question.Prove a.name) m h.state h.own
+  proof_text : (m : Map) (h : LineInState) (a : AsksProof m h) → answer_heard h ≡ read_answer (question.Prove a.name) m h.state h.own
   proof_text m h a = answer_asked (question.Prove a.name) m h a.asks
 
   -- this map's root is set, and was asked for
@@ -96,32 +96,32 @@ module _ (back : BlocksAreReadBack) (begins : RepliesBeginBlocks) (sets : Replie
     set : IfSome last (IsSet j)
     claims : AllByRecursion (IsOf asked) j.claims
 
-  abbrev texts : List Heard → List ℕ
+  abbrev texts : List LineInState → List ℕ
   texts hs = flat_map text_heard hs
 
-  abbrev Goal : List Heard → Type 0
+  abbrev Goal : List LineInState → Type 0
   Goal hs = (last : Option Map) (n at : ℕ) (j : Judging) → AreHeardOn last hs → Knows last j → length (lines (texts hs)) ≤ n → verdicts_from n j (record { at = at; left = lines (texts hs) }) ≡ judged_from at hs
 
   -- all maps whose roots these lines ask for are among the maps
-  abbrev AreAmong : List Heard → Type 0
+  abbrev AreAmong : List LineInState → Type 0
   AreAmong hs = (m : Map) → IsAskedOf hs m → asked m
 
   -- from a text of so many lines, and what is returned for it
-  told_more : (h : Heard) (hs : List Heard) (at many : ℕ) (told text : List ℕ) → many ≡ length (lines (text_heard h)) → unwrap_or (verdict_with_block (answer_heard h).reply) (syntax_lines at (length (lines (text_heard h)))) ≡ told → text ≡ judged_from (at + many) hs
+  told_more : (h : LineInState) (hs : List LineInState) (at many : ℕ) (told text : List ℕ) → many ≡ length (lines (text_heard h)) → unwrap_or (verdict_with_block (answer_heard h).reply) (syntax_lines at (length (lines (text_heard h)))) ≡ told → text ≡ judged_from (at + many) hs
       → told ++ text ≡ judged_from at (h ∷ hs)
   told_more h hs at many told text many_is told_is later = ap₂ (λ (t u : List ℕ). t ++ u) (sym told_is) (later ∙ ap (λ k. judged_from (at + k) hs) many_is)
 
   -- the lines of a text by itself
-  lines_alone : (h : Heard) (xs : List (List ℕ)) → ((rest : List ℕ) → lines (text_heard h ++ rest) ≡ xs ++ lines rest) → length xs ≡ length (lines (text_heard h))
+  lines_alone : (h : LineInState) (xs : List (List ℕ)) → ((rest : List ℕ) → lines (text_heard h ++ rest) ≡ xs ++ lines rest) → length xs ≡ length (lines (text_heard h))
   lines_alone h xs whole = sym (ap length (ap lines (sym (append-nil (text_heard h))) ∙ whole [] ∙ ap (λ (ls : List (List ℕ)). xs ++ ls) lines-none ∙ append-nil xs))
 
   -- ---- a root
-  root_lines : (m : Map) (h : Heard) → h.number < 2 ^ 64 → AsksRoot m h → (rest : List ℕ) → (line : List ℕ) × (lines (text_heard h ++ rest) ≡ line ∷ lines rest) × (line_read first_line_of line ≡ Some (first.Root (root m)))
+  root_lines : (m : Map) (h : LineInState) → h.number < 2 ^ 64 → AsksRoot m h → (rest : List ℕ) → (line : List ℕ) × (lines (text_heard h ++ rest) ≡ line ∷ lines rest) × (line_read first_line_of line ≡ Some (first.Root (root m)))
   root_lines m h small a rest =
       let one = sets h.number (root m) rest small (hash_of_key (root m) (root-IsKey m)) in
       (one.0, ap (λ (x : Answer). lines (answer_text h.number x ++ rest)) (root_text m h a) ∙ ap (λ (t : List ℕ). lines (t ++ rest)) (append-nil (reply_text h.number (reply.Root (root m)))) ∙ one.1, one.2)
 
-  root_first : (m : Map) (h : Heard) (hs : List Heard) → Goal hs → h.number < 2 ^ 64 → AsksRoot m h → asked m → AreHeardOn (Some m) hs → (n at : ℕ) (j : Judging) → AllByRecursion (IsOf asked) j.claims → length (lines (texts (h ∷ hs))) ≤ n
+  root_first : (m : Map) (h : LineInState) (hs : List LineInState) → Goal hs → h.number < 2 ^ 64 → AsksRoot m h → asked m → AreHeardOn (Some m) hs → (n at : ℕ) (j : Judging) → AllByRecursion (IsOf asked) j.claims → length (lines (texts (h ∷ hs))) ≤ n
       → verdicts_from n j (record { at = at; left = lines (texts (h ∷ hs)) }) ≡ judged_from at (h ∷ hs)
   root_first m h hs later small a among more zero at j claims enough = let one = root_lines m h small a (texts hs) in let many = ap length one.1 in absurd (omega arith)
   root_first m h hs later small a among more (suc n) at j claims enough =
@@ -136,7 +136,7 @@ module _ (back : BlocksAreReadBack) (begins : RepliesBeginBlocks) (sets : Replie
       (later (Some m) n (at + 1) (record { root = Some (root m); claims = j.claims }) more (record { set = record { root_is = refl; is_map = a.sound; among = among }; claims = claims }) (omega arith))
 
   -- ---- another reply
-  other_reply : (h : Heard) (hs : List Heard) → Goal hs → h.number < 2 ^ 64 → IsOther h → (last : Option Map) → AreHeardOn last hs → (n at : ℕ) (j : Judging) → Knows last j → length (lines (texts (h ∷ hs))) ≤ n
+  other_reply : (h : LineInState) (hs : List LineInState) → Goal hs → h.number < 2 ^ 64 → IsOther h → (last : Option Map) → AreHeardOn last hs → (n at : ℕ) (j : Judging) → Knows last j → length (lines (texts (h ∷ hs))) ≤ n
       → verdicts_from n j (record { at = at; left = lines (texts (h ∷ hs)) }) ≡ judged_from at (h ∷ hs)
   other_reply h hs later small o last more n at j known enough =
       let of = other_lines_of h small o in
@@ -153,7 +153,7 @@ module _ (back : BlocksAreReadBack) (begins : RepliesBeginBlocks) (sets : Replie
       (later last k (at + length xs) j more known (omega arith))
 
   -- ---- a proof
-  module _ (m : Map) (h : Heard) (small : h.number < 2 ^ 64) (a : AsksProof m h) (is_map : IsMap m) where
+  module _ (m : Map) (h : LineInState) (small : h.number < 2 ^ 64) (a : AsksProof m h) (is_map : IsMap m) where
     abbrev claim : Option (List ℕ)
     claim = fin.get m (K a.name)
 
@@ -186,7 +186,7 @@ module _ (back : BlocksAreReadBack) (begins : RepliesBeginBlocks) (sets : Replie
         let own : length (lines (text_heard h)) ≡ suc (length (lines (block ++ []))) = ap length (ap lines (sym (append-nil (text_heard h))) ∙ alone.1) in
         omega arith
 
-    proof_reply : (hs : List Heard) → Goal hs → (last : Option Map) → last ≡ Some m → asked m → AreHeardOn last hs → (n at : ℕ) (j : Judging) → j.root ≡ Some (root m) → AllByRecursion (IsOf asked) j.claims → length (lines (texts (h ∷ hs))) ≤ n
+    proof_reply : (hs : List LineInState) → Goal hs → (last : Option Map) → last ≡ Some m → asked m → AreHeardOn last hs → (n at : ℕ) (j : Judging) → j.root ≡ Some (root m) → AllByRecursion (IsOf asked) j.claims → length (lines (texts (h ∷ hs))) ≤ n
         → verdicts_from n j (record { at = at; left = lines (texts (h ∷ hs)) }) ≡ judged_from at (h ∷ hs)
     proof_reply hs later last is among more zero at j rooted claims enough = let one = proof_first (texts hs) in let many = ap length one.1 in absurd (omega arith)
     proof_reply hs later last is among more (suc n) at j rooted claims enough =
@@ -194,7 +194,7 @@ module _ (back : BlocksAreReadBack) (begins : RepliesBeginBlocks) (sets : Replie
         let one = proof_first rest in
         let many = ap length one.1 in
         let counted = block_counted 0 rest in
-        let place : Place = record { at = at + 1 + 3 + k; left = lines rest } in
+        let place : LinePlace = record { at = at + 1 + 3 + k; left = lines rest } in
         let x : Accepted = record { root = root m; judged = judged_of (a.name, claim, proof) } in
         let next : Judging = knows (root m) (j.claims ++ x ∷ []) in
         let here = judged-honest asked one_map m j.claims (judged_of (a.name, claim, proof)) among (accepted m (K a.name) is_map) refl claims in
@@ -209,7 +209,7 @@ module _ (back : BlocksAreReadBack) (begins : RepliesBeginBlocks) (sets : Replie
         (omega arith))
 
   -- ---- all of them
-  all_judged : (hs : List Heard) → AreAmong hs → Goal hs
+  all_judged : (hs : List LineInState) → AreAmong hs → Goal hs
   all_judged [] among last n at j heard known enough = ap (λ (ls : List (List ℕ)). verdicts_from n j (record { at = at; left = ls })) lines-none ∙ end_step n j at
   all_judged (h ∷ hs) among last n at j heard known enough =
       let later : Goal hs = all_judged hs (λ m is. among m (inr is)) in

@@ -30,16 +30,16 @@ use Rattle.jf_client.specs.Laws.{FitsLine}
 
 -- ---- lines and their replies
 -- a line, over what it is answered, and the number of its reply
-pub record Heard : Type 0 where
+pub record LineInState : Type 0 where
   pub state : State
   pub own : Own
   pub line : List ℕ
   pub number : ℕ
 
-abbrev pub answer_heard : Heard → Answer
+abbrev pub answer_heard : LineInState → Answer
 answer_heard h = answer h.state h.own h.line
 
-abbrev pub text_heard : Heard → List ℕ
+abbrev pub text_heard : LineInState → List ℕ
 text_heard h = answer_text h.number (answer_heard h)
 
 -- ---- what they are judged
@@ -55,7 +55,7 @@ syntax_lines at zero = []
 syntax_lines at (suc n) = syntax_text at ++ syntax_lines (at + 1) n
 
 -- what the texts are judged, one after another, if the first begins at line `at`: each line of the others is answered `syntax`
-abbrev pub judged_from : ℕ → List Heard → List ℕ
+abbrev pub judged_from : ℕ → List LineInState → List ℕ
 judged_from at [] = []
 judged_from at (h ∷ hs) =
     let many = length (lines (text_heard h)) in
@@ -75,7 +75,7 @@ map_in s own (command.ReadFork id q) = fork_map (newest s.all) s.forks id
 map_in s own c = empty
 
 -- a line asks a question of this map, and isn't refused
-pub record Asks (q : Question) (m : Map) (h : Heard) : Type 0 where
+pub record Asks (q : Question) (m : Map) (h : LineInState) : Type 0 where
   pub read : Command
   pub granted : refused_by h.state h.own read ≡ None
   pub reads : question_in read ≡ Some q
@@ -84,25 +84,25 @@ pub record Asks (q : Question) (m : Map) (h : Heard) : Type 0 where
   pub is : command_of h.line ≡ Some read
 
 -- a line asks for the root of this map
-pub record AsksRoot (m : Map) (h : Heard) : Type 0 where
+pub record AsksRoot (m : Map) (h : LineInState) : Type 0 where
   pub asks : Asks question.Root m h
   pub sound : IsMap m
 
 -- a line asks for the proof of a name in it
-pub record AsksProof (m : Map) (h : Heard) : Type 0 where
+pub record AsksProof (m : Map) (h : LineInState) : Type 0 where
   pub name : List ℕ
   pub asks : Asks (question.Prove name) m h
   pub fits : FitsLine name (get m (K name))
 
 -- a line has another reply, with no block or with that of a chunk
-pub record IsOther (h : Heard) : Type 0 where
+pub record IsOther (h : LineInState) : Type 0 where
   pub unjudged : verdict_with_block (answer_heard h).reply ≡ None
   pub in_range : IsInRange (answer_heard h).reply
   pub block_is : ((answer_heard h).block ≡ []) ⊎ ((es : Entries) × (proof : RangeProof) × IsChunkBlock es proof × ((answer_heard h).block ≡ chunk_lines es proof))
 
 -- lines ask for roots of maps and for proofs in them, each proof in the map whose root was asked for last; any others stand between.
 -- Before the first line, `last` is that map, or None if no root was asked for
-abbrev pub AreHeardOn : Option Map → List Heard → Type 0
+abbrev pub AreHeardOn : Option Map → List LineInState → Type 0
 AreHeardOn last [] = Unit {0}
 AreHeardOn last (h ∷ hs) =
     (h.number < 2 ^ 64)
@@ -110,16 +110,16 @@ AreHeardOn last (h ∷ hs) =
 
 -- ---- maps whose roots are asked for
 -- one of the lines asks for the root of this map
-abbrev pub IsAskedOf : List Heard → Map → Type 0
+abbrev pub IsAskedOf : List LineInState → Map → Type 0
 IsAskedOf [] m = ⊥
 IsAskedOf (h ∷ hs) m = AsksRoot m h ⊎ IsAskedOf hs m
 
 -- maps with one root for which the lines ask are one map. Where they differ, two different lists have one SHA-256 (`differing_maps_collide`),
 -- and honest claims on the two may contradict
-abbrev pub HaveOneMapForRoot : List Heard → Type 0
+abbrev pub HaveOneMapForRoot : List LineInState → Type 0
 HaveOneMapForRoot hs = (m m' : Map) → IsAskedOf hs m → IsAskedOf hs m' → root m ≡ root m' → m ≡ m'
 
 -- ---- the law
 -- the replies to such lines are judged as they are: each proof is accepted, and each line of another reply is answered `syntax`
 abbrev pub WholeRunsAreJudged : Type 0
-WholeRunsAreJudged = (hs : List Heard) → HaveOneMapForRoot hs → AreHeardOn None hs → verdicts (flat_map text_heard hs) ≡ judged_from 1 hs
+WholeRunsAreJudged = (hs : List LineInState) → HaveOneMapForRoot hs → AreHeardOn None hs → verdicts (flat_map text_heard hs) ≡ judged_from 1 hs

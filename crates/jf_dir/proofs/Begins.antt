@@ -14,7 +14,7 @@ use Rattle.jf_walk.proofs.NodesListed.{nodes-exact}
 use Rattle.jf_node.specs.SnapshotValue.{SnapshotValue}
 use Rattle.jf_node.specs.Snapshots.{snapshot_version_at, IsSnapshot}
 use Rattle.jf_diff.specs.Landings.{version_in, version_or}
-use Rattle.jf_standing.specs.Named.{Named, not_stale, leaf_entry, leaf_entries, AreEntries, map_at, version_at}
+use Rattle.jf_standing.specs.Named.{NamedNode, not_stale, leaf_entry, leaf_entries, AreEntries, map_at, version_at}
 use Rattle.jf_standing.specs.Standing.{Standing}
 use Rattle.jf_standing.specs.Sound.{IsSound}
 use Rattle.jf_standing.specs.Building.{floor_standing, nodes_by_name, node_of}
@@ -58,7 +58,7 @@ module _ (base : ℕ) (earlier : List (List ℕ)) (x : SnapshotValue) (snap : Is
   version_is : (p : Path) → is_node 0 p (entries x.map) ≡ true → version_at x.version (snapshot_standing base earlier x).nodes p ≡ version_in x p
   version_is p node = version-moved format.Two floor_made (nodes_by_name floor_made.nodes) made-sound moved x.version (omega arith) (omega arith) p ∙ version-floor format.Two base x.version (root x.map ∷ reverse earlier) x.map (version_in x) snap.map low last p node
 
-  came : (n : Named) → Contains (snapshot_standing base earlier x).nodes n → Contains floor_made.nodes n
+  came : (n : NamedNode) → Contains (snapshot_standing base earlier x).nodes n → Contains floor_made.nodes n
   came n has = Contains-permutation (nodes_by_name floor_made.nodes) floor_made.nodes n (IsPermutation-sym floor_made.nodes (nodes_by_name floor_made.nodes) moved) has
 
   keys_are : AreEntries (leaf_entries (snapshot_standing base earlier x).nodes)
@@ -66,7 +66,7 @@ module _ (base : ℕ) (earlier : List (List ℕ)) (x : SnapshotValue) (snap : Is
       let n = leaf-which (snapshot_standing base earlier x).nodes e has in
       let y = map-which (node_of format.Two (version_in x)) (nodes x.map) n.0 (came n.0 n.1) in
       let is = (nodes-exact x.map y.0).0 y.1 in
-      let leaf = ap (λ (z : Named). leaf_entry z.1) y.2 ∙ n.2 in
+      let leaf = ap (λ (z : NamedNode). leaf_entry z.1) y.2 ∙ n.2 in
       let alone = leaf-plain true _ (length y.0.0) y.0.1 e leaf in
       All-of (λ f. IsKey f.0 × IsBytes f.1) (entries x.map) e snap.map (under-Contains 0 y.0.0 (entries x.map) e (subst (λ es. Contains es e) (sym alone ∙ is.1) (Contains-first e []))))
 
@@ -87,7 +87,7 @@ module _ (base : ℕ) (earlier : List (List ℕ)) (x : SnapshotValue) (snap : Is
     λ has. absurd (
         let n = mark-which (snapshot_standing base earlier x).nodes k has in
         let y = map-which (node_of format.Two (version_in x)) (nodes x.map) n.0 (came n.0 n.1) in
-        let since : not_stale ≡ n.0.2 = ap (λ (z : Named). z.2) y.2 in
+        let since : not_stale ≡ n.0.2 = ap (λ (z : NamedNode). z.2) y.2 in
         let high = n.2 in
         omega arith),
   )

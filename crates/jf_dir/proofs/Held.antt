@@ -11,7 +11,7 @@ use Rattle.jf_walk.proofs.NodesListed.{nodes-exact}
 use Rattle.jf_node.specs.SnapshotValue.{SnapshotValue}
 use Rattle.jf_diff.specs.Landings.{version_in}
 use Rattle.jf_stale.specs.Marks.{Mark}
-use Rattle.jf_standing.specs.Named.{Named, not_stale, map_at, version_at}
+use Rattle.jf_standing.specs.Named.{NamedNode, not_stale, map_at, version_at}
 use Rattle.jf_standing.specs.Standing.{Standing}
 use Rattle.jf_standing.specs.Building.{node_of, floor_standing, floor_of, built_standing, up_from, nodes_by_name}
 use Rattle.jf_standing.proofs.Alive.{plain_node-same}
@@ -52,6 +52,6 @@ held-is s b rs (x ∷ xs) ms n h =
     let later : map (λ y. y.map) xs ≡ map (λ v. map_at v s.nodes) (up_from (s.floor + 1) (s.head - s.floor)) = sym (maps-held s (s.floor + 1) xs h.snapshots.1) ∙ ap (λ k. map (λ v. map_at v s.nodes) (up_from (s.floor + 1) k)) rest in
     let floor : floor_standing format.Two b x.version (root x.map ∷ drop (length xs + 1) (reverse rs)) x.map (version_in x) ≡ floor_of format.Two s =
     (λ i. floor_standing format.Two (sym base i) (first.version i) (root (first.map i) ∷ drop (dropped i) (sym rs_are i)) (first.map i) (version_in x))
-    ∙ ap (λ (ns : List Named). record { base = s.base; floor = s.floor; head = s.floor; roots = root m ∷ drop (s.head - s.floor + 1) s.roots; nodes = ns }) (nodes-alike m (version_in x) (version_at s.floor s.nodes) first.versions) in
+    ∙ ap (λ (ns : List NamedNode). record { base = s.base; floor = s.floor; head = s.floor; roots = root m ∷ drop (s.head - s.floor + 1) s.roots; nodes = ns }) (nodes-alike m (version_in x) (version_at s.floor s.nodes) first.versions) in
     let listed = ap₂ (λ t ms. nodes_by_name (built_standing format.Two t ms).nodes) floor later ∙ same-nodes format.Two s h.read h.sound in
     λ i. record { base = sym base i; floor = first.version i; head = top i; roots = sym rs_are i; nodes = listed i }

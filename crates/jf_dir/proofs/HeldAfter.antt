@@ -23,7 +23,7 @@ use Rattle.jf_node.specs.Snapshots.{snapshot_of, IsSnapshot}
 use Rattle.jf_node.specs.declared.update.Update.{Update}
 use Rattle.jf_diff.specs.Landings.{version_in}
 use Rattle.jf_stale.specs.Marks.{Mark, AreAscendingMarks}
-use Rattle.jf_standing.specs.Named.{Named, not_stale}
+use Rattle.jf_standing.specs.Named.{NamedNode, not_stale}
 use Rattle.jf_standing.specs.Standing.{Standing, with_floor}
 use Rattle.jf_standing.specs.Sound.{IsSound}
 use Rattle.jf_standing.specs.Landing.{landing_of, version_after}
@@ -172,4 +172,4 @@ unfolding plain_node
 begun-nodes v w same = ap (λ (ps : List (Path × Part)). nodes_by_name (map (node_of format.Two v) ps)) nodes-empty ∙ one_node v w same ∙ ap (map (node_of format.Two w)) (sym nodes-empty)
 
 pub begun-new : snapshot_standing 0 [] (snapshot_of 0 None) ≡ new_standing format.Two
-begun-new = ap (λ (ns : List Named). record { base = 0; floor = 0; head = 0; roots = root fin.empty ∷ []; nodes = ns }) (begun-nodes (version_in (snapshot_of 0 None)) (λ path. 0) refl)
+begun-new = ap (λ (ns : List NamedNode). record { base = 0; floor = 0; head = 0; roots = root fin.empty ∷ []; nodes = ns }) (begun-nodes (version_in (snapshot_of 0 None)) (λ path. 0) refl)

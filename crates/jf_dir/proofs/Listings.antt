@@ -25,7 +25,7 @@ use Rattle.jf_node.specs.Snapshots.{IsSnapshot, snapshot_version_at}
 use Rattle.jf_diff.specs.Gone.{IsLaterSnapshot, gone_node_in, gone_nodes}
 use Rattle.jf_diff.specs.Landings.{version_in, version_or}
 use Rattle.jf_standing.specs.Building.{apart, as_named, nodes_by_name}
-use Rattle.jf_standing.specs.Named.{Named, not_stale, is_alive, is_at, is_stale, alive_nodes_at, stale_nodes_at, map_at, version_at}
+use Rattle.jf_standing.specs.Named.{NamedNode, not_stale, is_alive, is_at, is_stale, alive_nodes_at, stale_nodes_at, map_at, version_at}
 use Rattle.jf_standing.specs.Next.{IsReadStanding}
 use Rattle.jf_standing.specs.Order.{by_name}
 use Rattle.jf_standing.specs.Sound.{IsSound}
@@ -48,11 +48,11 @@ use Rattle.jf_dir.specs.Directories.{IsSnapshotAt}
 use Rattle.jf_dir.specs.Listing.{AreListedTo}
 
 -- ---- two lists
-in_front : (xs ys : List Named) (n : Named) → Contains xs n → Contains (xs ++ ys) n
+in_front : (xs ys : List NamedNode) (n : NamedNode) → Contains xs n → Contains (xs ++ ys) n
 in_front [] ys n has = absurd (none_in_nothing n has)
 in_front (x ∷ xs) ys n has = Contains-cases n x xs has (λ same. subst (Contains (x ∷ xs ++ ys)) same (Contains-first x (xs ++ ys))) (λ later. Contains-later n x (xs ++ ys) (in_front xs ys n later))
 
-in_back : (xs ys : List Named) (n : Named) → Contains ys n → Contains (xs ++ ys) n
+in_back : (xs ys : List NamedNode) (n : NamedNode) → Contains ys n → Contains (xs ++ ys) n
 in_back [] ys n has = has
 in_back (x ∷ xs) ys n has = Contains-later n x (xs ++ ys) (in_back xs ys n has)
 
@@ -77,7 +77,7 @@ is_found (f ∷ fs) e has none = Contains-cases e f fs has
 module _ (s : Standing) (sound : IsSound format.Two s) where
   -- ---- one node
   -- a node alive at a version is the one that the snapshot of the version has at its path
-  same_gone : (w : ℕ) (old : SnapshotValue) (p : Path) (z : Named) → s.floor ≤ w → w ≤ s.head → IsSnapshotAt s w old → Contains s.nodes z → is_alive w z ≡ true → z.0.path ≡ p → is_node 0 p (entries old.map) ≡ true
+  same_gone : (w : ℕ) (old : SnapshotValue) (p : Path) (z : NamedNode) → s.floor ≤ w → w ≤ s.head → IsSnapshotAt s w old → Contains s.nodes z → is_alive w z ≡ true → z.0.path ≡ p → is_node 0 p (entries old.map) ≡ true
       → z ≡ gone_node_in old z.2 (p, under 0 p (entries old.map))
   same_gone w old p z low high at stood alive there node =
       let here = Contains-filter (is_alive w) s.nodes z stood alive in
@@ -95,7 +95,7 @@ module _ (s : Standing) (sound : IsSound format.Two s) where
     stale_step : (p : Path) → is_fresh (entries (map_at (w + 1) s.nodes)) (entries (map_at (w + 1 - 1) s.nodes)) p ≡ is_fresh (entries new.map) (entries old.map) p
     stale_step p = ap₂ (λ a b. is_fresh (entries a) (entries b) p) (sym next.map) (ap (λ v. map_at v s.nodes) (let e : w + 1 - 1 ≡ w = omega arith in e) ∙ sym at.map)
 
-    gone_own : (n : Named) → Contains (gone_nodes old.map new.map old (w + 1)) n → Contains s.nodes n
+    gone_own : (n : NamedNode) → Contains (gone_nodes old.map new.map old (w + 1)) n → Contains s.nodes n
     gone_own n has =
         let x = map-which (gone_node_in old (w + 1)) (stale old.map new.map) n has in
         let p = x.0.0 in
@@ -109,7 +109,7 @@ module _ (s : Standing) (sound : IsSound format.Two s) where
         let is : z.0 ≡ n = same ∙ ap₂ (λ v part. gone_node_in old v (p, part)) since (sym listed.1) ∙ x.2 in
         subst (Contains s.nodes) is stood
 
-    gone_all : IsReadStanding s → (n : Named) → Contains s.nodes n → n.2 ≡ w + 1 → Contains (gone_nodes old.map new.map old (w + 1)) n
+    gone_all : IsReadStanding s → (n : NamedNode) → Contains s.nodes n → n.2 ≡ w + 1 → Contains (gone_nodes old.map new.map old (w + 1)) n
     gone_all read n has since =
         let p = n.0.path in
         let step = sound.steps (w + 1) (omega arith) (omega arith) in
@@ -145,7 +145,7 @@ module _ (s : Standing) (sound : IsSound format.Two s) where
     }
 
     -- the nodes that one more landing made stale are listed
-    pub listed-next : IsReadStanding s → (before after : List Named) → AreListedTo s w before → after ≡ before ++ gone_nodes old.map new.map old new.version → AreListedTo s (w + 1) after
+    pub listed-next : IsReadStanding s → (before after : List NamedNode) → AreListedTo s w before → after ≡ before ++ gone_nodes old.map new.map old new.version → AreListedTo s (w + 1) after
     listed-next read before after h made =
         let gone = gone_nodes old.map new.map old (w + 1) in
         let is : after ≡ before ++ gone = made ∙ ap (λ v. before ++ gone_nodes old.map new.map old v) next.version in
@@ -161,10 +161,10 @@ module _ (s : Standing) (sound : IsSound format.Two s) where
         }
 
   -- ---- the nodes of the head
-  since_never : (n : Named) → Contains s.nodes n → s.head < n.2 → n.2 ≡ not_stale
+  since_never : (n : NamedNode) → Contains s.nodes n → s.head < n.2 → n.2 ≡ not_stale
   since_never n has late = elim (All-of _ s.nodes n sound.gone has) [ inl none ↦ none | inr within ↦ absurd (let top = within.1 in omega arith) ]
 
-  pub listed-head : (newest : SnapshotValue) (ns : List Named) → IsReadStanding s → IsSnapshotAt s s.head newest → ns ≡ map (gone_node_in newest not_stale) (nodes newest.map) → AreListedTo s s.floor ns
+  pub listed-head : (newest : SnapshotValue) (ns : List NamedNode) → IsReadStanding s → IsSnapshotAt s s.head newest → ns ≡ map (gone_node_in newest not_stale) (nodes newest.map) → AreListedTo s s.floor ns
   listed-head newest ns read at is =
       let low = sound.floor_low in
       let last = sound.head_last in
@@ -194,7 +194,7 @@ module _ (s : Standing) (sound : IsSound format.Two s) where
       }
 
   -- ---- all nodes
-  pub listed-all : (ns : List Named) → IsReadStanding s → AreListedTo s s.head ns → nodes_by_name ns ≡ s.nodes
+  pub listed-all : (ns : List NamedNode) → IsReadStanding s → AreListedTo s s.head ns → nodes_by_name ns ≡ s.nodes
   listed-all ns read h = same-by_name ns s.nodes read.rises
       (λ n has.
       let e = map-which as_named (by_name (map apart ns)) n has in
@@ -209,7 +209,7 @@ module _ (s : Standing) (sound : IsSound format.Two s) where
             let k = map-which apart ns (n.0, v) (find-Contains name_cmp name_cmp_total same_name-exact n.0 v es is) in
             let named : k.0.0 ≡ n.0 = ap (λ (e : NodeName × (PlainNode × ℕ)). e.0) k.2 in
             let one = one-name format.Two s sound k.0 n (h.own k.0 k.1) has named in
-            ap (λ x. Some x) (sym (ap (λ (e : NodeName × (PlainNode × ℕ)). e.1) k.2) ∙ ap (λ (m : Named). (m.1, m.2)) one)
+            ap (λ x. Some x) (sym (ap (λ (e : NodeName × (PlainNode × ℕ)). e.1) k.2) ∙ ap (λ (m : NamedNode). (m.1, m.2)) one)
       ] refl in
       Contains-map as_named (by_name es) (apart n) (find-Contains name_cmp name_cmp_total same_name-exact n.0 (n.1, n.2) (by_name es) (find-by_name n.0 es ∙ found)))
 
@@ -226,6 +226,6 @@ entry_put k v (e ∷ es) =
     ∙ ap (λ t. by_order (name_cmp k e.0) ((k, v) ∷ e ∷ es) ((e.0, v) ∷ es) (e ∷ t)) (entry_put k v es)
 
 -- the last node of a list is put before those that came after it
-pub put-last : (items before orig done : List Named) (n : Named) (es fs : List (NodeName × (PlainNode × ℕ))) → items ≡ before ++ n ∷ [] → items ++ done ≡ orig → es ≡ by_name (map apart done) → fs ≡ insert_entry name_cmp es n.0 (n.1, n.2)
-    → (x : List Named) × (before ++ x ≡ orig) × (fs ≡ by_name (map apart x))
+pub put-last : (items before orig done : List NamedNode) (n : NamedNode) (es fs : List (NodeName × (PlainNode × ℕ))) → items ≡ before ++ n ∷ [] → items ++ done ≡ orig → es ≡ by_name (map apart done) → fs ≡ insert_entry name_cmp es n.0 (n.1, n.2)
+    → (x : List NamedNode) × (before ++ x ≡ orig) × (fs ≡ by_name (map apart x))
 put-last items before orig done n es fs is all so_far made = (n ∷ done, sym (append_assoc before (n ∷ []) done) ∙ ap (λ ns. ns ++ done) (sym is) ∙ all, made ∙ entry_put n.0 (n.1, n.2) es ∙ ap (put name_cmp n.0 (n.1, n.2)) so_far)

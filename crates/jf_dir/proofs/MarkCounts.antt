@@ -20,7 +20,7 @@ use Rattle.jf_path.proofs.ListLaws.{Contains-first, Contains-later, Contains-map
 use Rattle.jf_path.proofs.OrderLaws.{Equal-from_is_eq}
 use Rattle.jf_stale.specs.Marks.{Mark, mark_cmp, AreAscendingMarks}
 use Rattle.jf_stale.proofs.MarkLaws.{mark_cmp_total, mark_cmp-exact}
-use Rattle.jf_standing.specs.Named.{Named, not_stale}
+use Rattle.jf_standing.specs.Named.{NamedNode, not_stale}
 use Rattle.jf_standing.specs.Standing.{Standing, with_floor}
 use Rattle.jf_standing.specs.Next.{IsReadStanding}
 use Rattle.jf_standing.specs.Building.{apart}
@@ -73,11 +73,11 @@ same_named_as name e = eq_by_cmp name_cmp name e.0
 tied_name : (name : NodeName) → eq_by_cmp name_cmp name name ≡ true
 tied_name name = ap (λ o. Rattle.std.specs.Ordering.is_eq o) (tied_itself name_cmp_total name)
 
-marks_apart : (ns : List Named) → ((name : NodeName) → count_by (same_named_as name) (map apart ns) ≤ 1) → AreApart (marks_of ns)
+marks_apart : (ns : List NamedNode) → ((name : NodeName) → count_by (same_named_as name) (map apart ns) ≤ 1) → AreApart (marks_of ns)
 marks_apart [] few = tt
 marks_apart (n ∷ ns) few =
     let rest = marks_apart ns (λ name. let all = few name in let cons = count-cons (same_named_as name) (apart n) (map apart ns) in omega arith) in
-    elim (is_stale_node n) as (λ b. AreApart (map (λ (z : Named). (z.2, z.0)) (cond b (n ∷ filter is_stale_node ns) (filter is_stale_node ns)))) [
+    elim (is_stale_node n) as (λ b. AreApart (map (λ (z : NamedNode). (z.2, z.0)) (cond b (n ∷ filter is_stale_node ns) (filter is_stale_node ns)))) [
       | true ↦ (
         All-each_element _ (marks_of ns) (λ k has same.
             let z = mark-which ns k has in
@@ -92,24 +92,24 @@ marks_apart (n ∷ ns) few =
       | false ↦ rest
     ]
 
-pub apart-marks_of : (ns : List Named) → IsTrue (are_rising (map (λ n. n.0) ns)) → AreApart (marks_of ns)
+pub apart-marks_of : (ns : List NamedNode) → IsTrue (are_rising (map (λ n. n.0) ns)) → AreApart (marks_of ns)
 apart-marks_of ns rises = marks_apart ns (λ name. count-sorted name_cmp name_cmp_total same_name-exact name (map apart ns) (are_rising-sorted (map apart ns) (subst (λ xs. IsTrue (are_rising xs)) (sym (apart_names ns)) rises)))
 
 -- as many marks as stale nodes
-pub length-marks : (ns : List Named) (ms : List Mark) → IsTrue (are_rising (map (λ n. n.0) ns)) → AreAscendingMarks ms → AreMarksOf ns ms → length ms ≡ length (filter is_stale_node ns)
+pub length-marks : (ns : List NamedNode) (ms : List Mark) → IsTrue (are_rising (map (λ n. n.0) ns)) → AreAscendingMarks ms → AreMarksOf ns ms → length ms ≡ length (filter is_stale_node ns)
 length-marks ns ms rises ascending are =
     let up = length-within ms (marks_of ns) (apart-ascending ms ascending) (λ k. (are k).0) in
     let down = length-within (marks_of ns) ms (apart-marks_of ns rises) (λ k. (are k).1) in
-    let all : length (marks_of ns) ≡ length (filter is_stale_node ns) = length-map (filter is_stale_node ns) (λ (z : Named). (z.2, z.0)) in
+    let all : length (marks_of ns) ≡ length (filter is_stale_node ns) = length-map (filter is_stale_node ns) (λ (z : NamedNode). (z.2, z.0)) in
     omega arith
 
 -- ---- a later floor
 -- a node that a floor drops is stale
-stale_early : (floor : ℕ) (n : Named) → floor < not_stale → nat_lt floor n.2 ≡ false → is_stale_node n ≡ true
+stale_early : (floor : ℕ) (n : NamedNode) → floor < not_stale → nat_lt floor n.2 ≡ false → is_stale_node n ≡ true
 stale_early floor n low early = grind (arith, nat_tests)
 
 -- the nodes that are not stale stay under a floor
-unstale_floored : (floor : ℕ) (ns : List Named) → floor < not_stale → filter (λ n. not (is_stale_node n)) (filter (λ n. nat_lt floor n.2) ns) ≡ filter (λ n. not (is_stale_node n)) ns
+unstale_floored : (floor : ℕ) (ns : List NamedNode) → floor < not_stale → filter (λ n. not (is_stale_node n)) (filter (λ n. nat_lt floor n.2) ns) ≡ filter (λ n. not (is_stale_node n)) ns
 unstale_floored floor [] low = refl
 unstale_floored floor (n ∷ ns) low =
     let rest = unstale_floored floor ns low in

@@ -13,7 +13,7 @@ use Rattle.jf_codec.specs.declared.format.Format.TheVariants as format
 use Rattle.jf_node.specs.SnapshotValue.{SnapshotValue}
 use Rattle.jf_node.specs.declared.update.Update.{Update}
 use Rattle.jf_stale.specs.Marks.{Mark}
-use Rattle.jf_standing.specs.Named.{Named, is_at, map_at, version_at}
+use Rattle.jf_standing.specs.Named.{NamedNode, is_at, map_at, version_at}
 use Rattle.jf_standing.specs.Standing.{Standing, with_floor, marked_node, unmarked_node}
 use Rattle.jf_standing.specs.Sound.{IsSound}
 use Rattle.jf_standing.specs.Landing.{landing_of}
@@ -149,7 +149,7 @@ module _ (s : Standing) (m : Map) (u : Update) (read : IsReadStanding s) (sound 
 -- ---- a later floor
 module _ (s : Standing) (floor : ℕ) (low : s.floor ≤ floor) (high : floor ≤ s.head) where
   version_floored : (w : ℕ) (p : Path) → floor ≤ w → version_at w (with_floor floor s).nodes p ≡ version_at w s.nodes p
-  version_floored w p late = ap (λ ns. slice_index_or (map (λ (n : Named). n.0.version) (filter (is_at p) ns)) 0 0) (alive-floored floor w s late)
+  version_floored w p late = ap (λ ns. slice_index_or (map (λ (n : NamedNode). n.0.version) (filter (is_at p) ns)) 0 0) (alive-floored floor w s late)
 
   pub floored-read : IsReadStanding s → IsReadStanding (with_floor floor s)
   floored-read read = record {

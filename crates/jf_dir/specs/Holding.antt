@@ -10,7 +10,7 @@ use Rattle.jf_node.specs.SnapshotValue.{SnapshotValue}
 use Rattle.jf_node.specs.declared.update.Update.{Update}
 use Rattle.jf_diff.specs.Landings.{version_in}
 use Rattle.jf_stale.specs.Marks.{Mark}
-use Rattle.jf_standing.specs.Named.{Named, not_stale}
+use Rattle.jf_standing.specs.Named.{NamedNode, not_stale}
 use Rattle.jf_standing.specs.Standing.{Standing}
 use Rattle.jf_standing.specs.Sound.{IsSound}
 use Rattle.jf_standing.specs.Landing.{landing_of}
@@ -36,15 +36,15 @@ AreSnapshotsFrom s w [] = Unit {0}
 AreSnapshotsFrom s w (x ∷ xs) = IsSnapshotAt s w x × AreSnapshotsFrom s (w + 1) xs
 
 -- whether a node is stale since some version
-abbrev pub is_stale_node : Named → Bool
+abbrev pub is_stale_node : NamedNode → Bool
 is_stale_node n = nat_lt n.2 not_stale
 
 -- the marks of the nodes that are stale, in the order of the nodes
-abbrev pub marks_of : List Named → List Mark
+abbrev pub marks_of : List NamedNode → List Mark
 marks_of ns = map (λ n. (n.2, n.0)) (filter is_stale_node ns)
 
 -- the marks are those of the nodes that are stale
-abbrev pub AreMarksOf : List Named → List Mark → Type 0
+abbrev pub AreMarksOf : List NamedNode → List Mark → Type 0
 AreMarksOf ns ms = (k : Mark) → Contains ms k ↔ Contains (marks_of ns) k
 
 -- the values of a snapshot have at most 4,096 bytes

@@ -3,7 +3,7 @@ use Rattle.std.specs.Prelude.{◌≡◌, ℕ, List, ◌≤◌, ◌^◌, length, 
 use Rattle.std.proofs.Common.{ext_get_or, arith, subst, refl, ap, sym, ◌∙◌, append_assoc, ap₂, length-append, inl, inr}
 use Rattle.std.specs.List.{AllByRecursion}
 use Rattle.jf_path.proofs.ListLaws.{All-append}
-use Rattle.jf_disk.specs.Disk.{DiskState, Files, MayLeave, IsImage, content_on, bytes_of, durable, IsBounded, History, next, Fails, LeftSince, LeftSinceIn, Unchanged, reads, state_after_sync}
+use Rattle.jf_disk.specs.Disk.{DiskState, Files, MayLeave, IsImage, content_on, bytes_of, durable, IsBounded, History, next, Fails, LeftSince, LeftSinceIn, TearsNothing, reads, state_after_sync}
 use Rattle.jf_disk.specs.declared.side.Side.{Side}
 use Rattle.jf_disk.specs.Crashes.{GoesOnBy, LeavesOnly, GoesOn, LeavesNow, Idles, opposite, KeepsOther, LeavesFiles}
 use Rattle.jf_disk.specs.Moments.{all_states, ExtendsHistory}
@@ -170,8 +170,8 @@ pub idle_went : (h : History) (o n : Option History) → o ≡ Some h → n ≡ 
 idle_went h o n told is = (next (λ s. s) h, told_next (λ s. s) o n h told is, idle_once h)
 
 -- a call that changes nothing and fails
-pub idle_failed : (h : History) (o n : Option History) → o ≡ Some h → Fails o n Unchanged → (g : History) × (n ≡ Some g) × Idles h g
-idle_failed h o n told fails = fails_by (λ s. s ≡ h.now) h h o n Unchanged told fails (by_nowhere (λ s. s ≡ h.now) h) refl (λ s torn. absurd torn)
+pub idle_failed : (h : History) (o n : Option History) → o ≡ Some h → Fails o n TearsNothing → (g : History) × (n ≡ Some g) × Idles h g
+idle_failed h o n told fails = fails_by (λ s. s ≡ h.now) h h o n TearsNothing told fails (by_nowhere (λ s. s ≡ h.now) h) refl (λ s torn. absurd torn)
 
 -- ---- added states that keep the other side
 abbrev IsAcross : Side → History → DiskState → Type 0

@@ -23,7 +23,7 @@ use Rattle.jf_node.specs.SnapshotValue.{SnapshotValue}
 use Rattle.jf_node.specs.Snapshots.{snapshot_version_at, IsSnapshot}
 use Rattle.jf_diff.specs.Landings.{version_in, version_or}
 use Rattle.jf_update.specs.Restored.{IsRestored}
-use Rattle.jf_standing.specs.Named.{Named, not_stale, map_at}
+use Rattle.jf_standing.specs.Named.{NamedNode, not_stale, map_at}
 use Rattle.jf_standing.specs.Standing.{Standing, versions_of, down_from}
 use Rattle.jf_standing.specs.Sound.{IsSound}
 use Rattle.jf_standing.specs.Next.{IsReadStanding}
@@ -80,7 +80,7 @@ pub restored-standing : (version n : ℕ) (es : List (List ℕ × List ℕ)) (x 
 restored-standing version n es x d restored snap sorted is =
     let same : x.map ≡ map_of_entries es = map-from_entries x.map (map_of_entries es) (restored.same ∙ sym (fin.entries-from_sorted key_cmp es sorted)) in
     is
-    ∙ ap (λ (ns : List Named). standing_by_name record { base = version; floor = x.version; head = x.version; roots = root x.map ∷ []; nodes = ns }) (nodes-alike x.map (version_in x) (λ path. version) (restored-versions version n es x restored snap))
+    ∙ ap (λ (ns : List NamedNode). standing_by_name record { base = version; floor = x.version; head = x.version; roots = root x.map ∷ []; nodes = ns }) (nodes-alike x.map (version_in x) (λ path. version) (restored-versions version n es x restored snap))
     ∙ ap (λ v. standing_by_name record { base = version; floor = v; head = v; roots = root x.map ∷ []; nodes = map (node_of format.Two (λ path. version)) (nodes x.map) }) restored.version
     ∙ ap (λ m. standing_by_name (imported_standing format.Two version m)) same
 

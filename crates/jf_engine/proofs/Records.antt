@@ -7,7 +7,7 @@ use Rattle.std.proofs.lemmas.List.Sorted.{Contains-permutation, IsPermutation-sy
 use Rattle.jf_hash.specs.Maps.{Batch, IsBatch}
 use Rattle.jf_model.specs.Batches.{key_count}
 use Rattle.jf_model.specs.Versions.{land_all, versions_from_floor}
-use Rattle.jf_frame.specs.Framed.{Framed}
+use Rattle.jf_frame.specs.Framed.{FramedRecord}
 use Rattle.jf_frame.specs.Logs.{appended_record}
 use Rattle.jf_frame.specs.Framing.{IsFrame, number_of}
 use Rattle.jf_frame.proofs.FramingLaws.{frame_is_of_one}
@@ -21,7 +21,7 @@ use Rattle.jf_payload.specs.declared.records.Record.TheVariants as «record»
 use Rattle.jf_payload.specs.Spelling.{IsRecord, IsSpelling, kind_of, record_bytes, checkpoint_kind}
 use Rattle.jf_payload.specs.Counted.{record_in, commit_in, nodes_in}
 use Rattle.jf_payload.specs.Laws.{KeptIsSpelled, WrittenInBoth}
-use Rattle.jf_standing.specs.Named.{Named, not_stale, AreEntries}
+use Rattle.jf_standing.specs.Named.{NamedNode, not_stale, AreEntries}
 use Rattle.jf_standing.specs.Standing.{Standing, versions_of, with_floor, with_nodes}
 use Rattle.jf_standing.specs.Sound.{IsSound}
 use Rattle.jf_standing.specs.Next.{IsReadStanding}
@@ -48,11 +48,11 @@ kept_spelling : KeptIsSpelled → WrittenInBoth → (fmt : Format) (offset : ℕ
 kept_spelling kept both fmt offset r written = record { sound = both fmt r written; kind_is = sym (kept fmt r).1; payload_is = sym (kept fmt r).0 }
 
 -- the record that an engine appends to a file of a format
-abbrev pub appended : Format → ℕ → Record → Framed
+abbrev pub appended : Format → ℕ → Record → FramedRecord
 appended fmt offset r = appended_record offset (kind_of fmt r) (record_bytes fmt r)
 
 -- the record of landings leads from what the format keeps of a standing to what it keeps of the standing after them
-pub landings_lead : LandingsFollow → FormatsAreSound → FormatsGroup → KeptIsSpelled → WrittenInBoth → (rs : List Framed) (fmt : Format) (offset : ℕ) (s : Standing) (bs : List Batch)
+pub landings_lead : LandingsFollow → FormatsAreSound → FormatsGroup → KeptIsSpelled → WrittenInBoth → (rs : List FramedRecord) (fmt : Format) (offset : ℕ) (s : Standing) (bs : List Batch)
     → LeadToStanding rs fmt (standing_in fmt s) → IsReadStanding s → IsSound format.Two s → AllByRecursion IsBatch bs → len (head_map s) + key_count bs ≤ 2 ^ 63 → s.head + length bs < not_stale
     → IsRecord format.Two (landed_record (landings_of format.Two s bs))
     → LeadToStanding (rs ++ appended fmt offset (landed_record (landings_of format.Two s bs)) ∷ []) fmt (standing_in fmt (all_landed format.Two s bs))
@@ -69,7 +69,7 @@ landings_lead law sound_in group kept both rs fmt offset s bs leads read sound b
     )
 
 -- ---- floors
-pub floors_lead : FloorsFollow → FormatsAreSound → FormatsFollow → (rs : List Framed) (fmt : Format) (offset : ℕ) (s : Standing) (floor : ℕ) → LeadToStanding rs fmt (standing_in fmt s) → IsSound format.Two s → s.floor ≤ floor → floor ≤ s.head
+pub floors_lead : FloorsFollow → FormatsAreSound → FormatsFollow → (rs : List FramedRecord) (fmt : Format) (offset : ℕ) (s : Standing) (floor : ℕ) → LeadToStanding rs fmt (standing_in fmt s) → IsSound format.Two s → s.floor ≤ floor → floor ≤ s.head
     → LeadToStanding (rs ++ appended fmt offset («record».Floor floor) ∷ []) fmt (standing_in fmt (with_floor floor s))
     × (versions_of (standing_in fmt (with_floor floor s)) ≡ versions_from_floor floor (versions_of (standing_in fmt s)))
 floors_lead law sound_in follow rs fmt offset s floor leads sound low high =
@@ -81,7 +81,7 @@ floors_lead law sound_in follow rs fmt offset s floor leads sound low high =
     (subst (LeadToStanding (rs ++ y ∷ []) fmt) same f.0, ap versions_of (sym same) ∙ f.1)
 
 -- ---- checkpoints
-nodes_in-two : (ns : List Named) → nodes_in format.Two ns ≡ ns
+nodes_in-two : (ns : List NamedNode) → nodes_in format.Two ns ≡ ns
 nodes_in-two [] = refl
 nodes_in-two (n ∷ ns) = ap (λ xs. n ∷ xs) (nodes_in-two ns)
 
@@ -107,14 +107,14 @@ checkpoint_leads law numbered s g read sound written =
     (subst (LeadToStanding (x ∷ []) format.Two) same f.0, (numbered format.Two g s.base s.floor s.head (reverse s.roots) (nodes_by_name s.nodes) x is).1)
 
 -- the checkpoint of a standing, made of parts that equal the standing's
-pub same_checkpoint : (s : Standing) (g base floor head : ℕ) (roots : List (List ℕ)) (nodes : List Named) → IsReadStanding s → IsSound format.Two s → base ≡ s.base → floor ≡ s.floor → head ≡ s.head → roots ≡ reverse s.roots → nodes ≡ s.nodes
+pub same_checkpoint : (s : Standing) (g base floor head : ℕ) (roots : List (List ℕ)) (nodes : List NamedNode) → IsReadStanding s → IsSound format.Two s → base ≡ s.base → floor ≡ s.floor → head ≡ s.head → roots ≡ reverse s.roots → nodes ≡ s.nodes
     → «record».Checkpoint g base floor head roots nodes ≡ checkpoint_of g s
 same_checkpoint s g base floor head roots nodes read sound b f h r n =
     let k : nodes ≡ nodes_by_name s.nodes = n ∙ sym (nodes-ordered s read sound) in
     λ i. «record».Checkpoint g (b i) (f i) (h i) (r i) (k i)
 
 -- format 2 keeps a record of a checkpoint whole
-pub checkpoint-kept : (g base floor head : ℕ) (roots : List (List ℕ)) (nodes : List Named) → record_in format.Two («record».Checkpoint g base floor head roots nodes) ≡ «record».Checkpoint g base floor head roots nodes
+pub checkpoint-kept : (g base floor head : ℕ) (roots : List (List ℕ)) (nodes : List NamedNode) → record_in format.Two («record».Checkpoint g base floor head roots nodes) ≡ «record».Checkpoint g base floor head roots nodes
 checkpoint-kept g base floor head roots nodes = ap (λ ns. «record».Checkpoint g base floor head roots ns) (nodes_in-two nodes)
 
 -- what the frame of a checkpoint may be taken for: a checkpoint of this generation
@@ -132,6 +132,6 @@ pub frame_of_new : (s : Standing) (bytes slice : List ℕ) → s ≡ new_standin
 frame_of_new s bytes slice new same is = subst (λ (xs : List ℕ). IsFrame xs 5 (record_bytes format.Two (checkpoint_of 1 (new_standing format.Two)))) (sym same) (subst (λ (t : Standing). IsFrame bytes 5 (record_bytes format.Two (checkpoint_of 1 t))) new is)
 
 -- live records have a lesser generation than the next one
-pub older-generation : (rs : List Framed) (fmt : Format) (s : Standing) (n g : ℕ) → LeadToStanding rs fmt s → generation_in rs ≡ n → g ≡ n + 1 → generation_of rs < g
+pub older-generation : (rs : List FramedRecord) (fmt : Format) (s : Standing) (n g : ℕ) → LeadToStanding rs fmt s → generation_in rs ≡ n → g ≡ n + 1 → generation_of rs < g
 older-generation [] fmt s n g leads is next = absurd leads
 older-generation (x ∷ xs) fmt s n g leads is next = omega (arith, is, next)

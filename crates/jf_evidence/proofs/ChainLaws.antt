@@ -10,7 +10,7 @@ use Rattle.jf_path.specs.Keys.{bit}
 use Rattle.jf_hash.specs.Hashes.{L, N, V}
 use Rattle.jf_hash.specs.Roots.{zeros, ones, part_root}
 use Rattle.jf_hash.proofs.HashLaws.{L-IsKey, N-IsKey}
-use Rattle.jf_evidence.specs.Ranges.{Entry, Entries, last_entry, last_hash, all_but_last, first_hash, range_root_below}
+use Rattle.jf_evidence.specs.Ranges.{KeyAndValue, Entries, last_entry, last_hash, all_but_last, first_hash, range_root_below}
 use Rattle.jf_evidence.specs.Inputs.{leaf_input, pair_input, value_input}
 use Rattle.jf_evidence.specs.MapClashes.{part_inputs}
 use Rattle.jf_evidence.specs.FrontClashes.{range_inputs}
@@ -20,7 +20,7 @@ pub last_or-push : {X : Type 0} (o : Option X) (xs : List X) (x : X) → last_or
 last_or-push o [] x = refl
 last_or-push o (y ∷ xs) x = last_or-push (Some y) xs x
 
-pub last_entry-push : (xs : Entries) (x : Entry) → last_entry (xs ++ x ∷ []) ≡ x
+pub last_entry-push : (xs : Entries) (x : KeyAndValue) → last_entry (xs ++ x ∷ []) ≡ x
 last_entry-push xs x = ap (λ o. unwrap_or o ([], [])) (last_or-push _ xs x)
 
 pub last_hash-push : (xs : List (List ℕ)) (x : List ℕ) → last_hash (xs ++ x ∷ []) ≡ x
@@ -38,13 +38,13 @@ all_but_last-turned [] = refl
 all_but_last-turned (t ∷ ts) = ap all_but_last (reverse_onto ts t []) ∙ all_but_last-push (reverse ts) t
 
 -- the root of a chunk whose last entry is x, with xs before it
-unfoldable pub chain_root : ℕ → ℕ → Entries → Entry → List (List ℕ) → List ℕ
+unfoldable pub chain_root : ℕ → ℕ → Entries → KeyAndValue → List (List ℕ) → List ℕ
 chain_root zero d xs x ts = L x.0 (V x.1)
 chain_root (suc n) d xs x ts =
     if bit x.0 d then N (part_root (d + 1) (zeros d xs)) (chain_root n (d + 1) (ones d xs) x ts) else N (chain_root n (d + 1) xs x (drop 1 ts)) (first_hash ts)
 
 -- what the chunk's root hashes, by the entries before its last one
-unfoldable pub chain_inputs : ℕ → ℕ → Entries → Entry → List (List ℕ) → List (List ℕ)
+unfoldable pub chain_inputs : ℕ → ℕ → Entries → KeyAndValue → List (List ℕ) → List (List ℕ)
 chain_inputs zero d xs x ts = leaf_input x.0 (V x.1) ∷ value_input x.1 ∷ []
 chain_inputs (suc n) d xs x ts =
     if bit x.0 d
@@ -52,7 +52,7 @@ chain_inputs (suc n) d xs x ts =
     else pair_input (chain_root n (d + 1) xs x (drop 1 ts)) (first_hash ts) ∷ chain_inputs n (d + 1) xs x (drop 1 ts)
 
 -- the root of a chunk has 32 bytes
-pub chain_root-long : (n d : ℕ) (xs : Entries) (x : Entry) (ts : List (List ℕ)) → length (chain_root n d xs x ts) ≡ 32
+pub chain_root-long : (n d : ℕ) (xs : Entries) (x : KeyAndValue) (ts : List (List ℕ)) → length (chain_root n d xs x ts) ≡ 32
 unfolding chain_root
 chain_root-long zero d xs x ts = (L-IsKey x.0 (V x.1)).long
 chain_root-long (suc n) d xs x ts =
@@ -62,15 +62,15 @@ chain_root-long (suc n) d xs x ts =
     ]
 
 -- ---- the two forms
-zeros_last : (d : ℕ) (xs : Entries) (x : Entry) → bit x.0 d ≡ true → zeros d (xs ++ x ∷ []) ≡ zeros d xs
+zeros_last : (d : ℕ) (xs : Entries) (x : KeyAndValue) → bit x.0 d ≡ true → zeros d (xs ++ x ∷ []) ≡ zeros d xs
 zeros_last d xs x one = filter-append (λ e. not (bit e.0 d)) xs (x ∷ []) ∙ ap (λ b. zeros d xs ++ cond (not b) (x ∷ []) []) one ∙ append-nil (zeros d xs)
 
-ones_last : (d : ℕ) (xs : Entries) (x : Entry) → bit x.0 d ≡ true → ones d (xs ++ x ∷ []) ≡ ones d xs ++ x ∷ []
+ones_last : (d : ℕ) (xs : Entries) (x : KeyAndValue) → bit x.0 d ≡ true → ones d (xs ++ x ∷ []) ≡ ones d xs ++ x ∷ []
 ones_last d xs x one = filter-append (λ e. bit e.0 d) xs (x ∷ []) ∙ ap (λ b. ones d xs ++ cond b (x ∷ []) []) one
 
-pub range_root_below-chain : (n d : ℕ) (xs : Entries) (x : Entry) (ts : List (List ℕ)) → range_root_below n d x.0 (xs ++ x ∷ []) (reverse ts) ≡ chain_root n d xs x ts
+pub range_root_below-chain : (n d : ℕ) (xs : Entries) (x : KeyAndValue) (ts : List (List ℕ)) → range_root_below n d x.0 (xs ++ x ∷ []) (reverse ts) ≡ chain_root n d xs x ts
 unfolding range_root_below chain_root
-range_root_below-chain zero d xs x ts = ap (λ (e : Entry). L e.0 (V e.1)) (last_entry-push xs x)
+range_root_below-chain zero d xs x ts = ap (λ (e : KeyAndValue). L e.0 (V e.1)) (last_entry-push xs x)
 range_root_below-chain (suc n) d xs x ts =
     elim (bit x.0 d) as (λ b. bit x.0 d ≡ b
     → cond b (N (part_root (d + 1) (zeros d (xs ++ x ∷ []))) (range_root_below n (d + 1) x.0 (ones d (xs ++ x ∷ [])) (reverse ts)))
@@ -82,9 +82,9 @@ range_root_below-chain (suc n) d xs x ts =
           (ap (range_root_below n (d + 1) x.0 (xs ++ x ∷ [])) (all_but_last-turned ts) ∙ range_root_below-chain n (d + 1) xs x (drop 1 ts)) (last_hash-turned ts)
     ] refl
 
-pub range_inputs-chain : (n d : ℕ) (xs : Entries) (x : Entry) (ts : List (List ℕ)) → range_inputs n d x.0 (xs ++ x ∷ []) (reverse ts) ≡ chain_inputs n d xs x ts
+pub range_inputs-chain : (n d : ℕ) (xs : Entries) (x : KeyAndValue) (ts : List (List ℕ)) → range_inputs n d x.0 (xs ++ x ∷ []) (reverse ts) ≡ chain_inputs n d xs x ts
 unfolding range_inputs chain_inputs
-range_inputs-chain zero d xs x ts = ap (λ (e : Entry). leaf_input e.0 (V e.1) ∷ value_input e.1 ∷ []) (last_entry-push xs x)
+range_inputs-chain zero d xs x ts = ap (λ (e : KeyAndValue). leaf_input e.0 (V e.1) ∷ value_input e.1 ∷ []) (last_entry-push xs x)
 range_inputs-chain (suc n) d xs x ts =
     let es : Entries = xs ++ x ∷ [] in
     elim (bit x.0 d) as (λ b. bit x.0 d ≡ b

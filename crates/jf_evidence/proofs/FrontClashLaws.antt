@@ -8,7 +8,7 @@ use Rattle.jf_hash.specs.Parts.{IsPart}
 use Rattle.jf_hash.specs.Roots.{zeros, ones, part_root}
 use Rattle.jf_hash.proofs.Split.{deeper, zeros_part, ones_part}
 use Rattle.jf_evidence.specs.Inputs.{leaf_input, value_input, first_difference, Collides, pair_input}
-use Rattle.jf_evidence.specs.Ranges.{Entry, Entries, first_hash}
+use Rattle.jf_evidence.specs.Ranges.{KeyAndValue, Entries, first_hash}
 use Rattle.jf_evidence.specs.MapClashes.{part_inputs}
 use Rattle.jf_evidence.specs.FrontClashes.{front_inputs}
 use Rattle.jf_evidence.proofs.InputLaws.{L-input, N-input}
@@ -20,12 +20,12 @@ use Rattle.jf_evidence.proofs.CrowdLaws.{is_near, is_near-one, is_near-zero, is_
 
 -- ---- one step of the map's side
 -- a leaf that results in the root of a part is the part's one entry, or collides
-leaf_front : (k d : ℕ) (x : Entry) (es : Entries) → k ≡ 256 - d → IsKey x.0 → IsPart d es → L x.0 (V x.1) ≡ part_root d es → es ≢ x ∷ []
+leaf_front : (k d : ℕ) (x : KeyAndValue) (es : Entries) → k ≡ 256 - d → IsKey x.0 → IsPart d es → L x.0 (V x.1) ≡ part_root d es → es ≢ x ∷ []
     → Collides (first_difference (leaf_input x.0 (V x.1) ∷ value_input x.1 ∷ []) (part_inputs k d es))
 unfolding part_inputs
 leaf_front k d x [] fuel key part meet other = step _ _ (value_input x.1 ∷ []) [] (sym (L-input _ _) ∙ meet ∙ root-none_input d) (λ one. absurd (cc))
 leaf_front k d x (e ∷ []) fuel key part meet other =
-    leaves-collide x e [] [] key part.keys.0 (sym (L-input _ _) ∙ meet ∙ root-leaf_input d e) (λ same. absurd (other (ap (λ (y : Entry). y ∷ []) (sym same))))
+    leaves-collide x e [] [] key part.keys.0 (sym (L-input _ _) ∙ meet ∙ root-leaf_input d e) (λ same. absurd (other (ap (λ (y : KeyAndValue). y ∷ []) (sym same))))
 leaf_front zero d x (e ∷ f ∷ es) fuel key part meet other = absurd (too_deep d e f es part fuel)
 leaf_front (suc k) d x (e ∷ f ∷ es) fuel key part meet other =
     step _ _ (value_input x.1 ∷ []) (part_inputs k (d + 1) (zeros d (e ∷ f ∷ es)) ++ part_inputs k (d + 1) (ones d (e ∷ f ∷ es))) (sym (L-input _ _) ∙ meet ∙ root-pair_input d e f es part) (λ one. absurd (cc))
@@ -49,7 +49,7 @@ pair_front n d key (e ∷ f ∷ es) l r us long part meet rest =
 
 -- ---- both sides
 -- the entries before one whose bit is 1, by their halves
-before_one : (d : ℕ) (xs : Entries) (x : Entry) → IsPart d (xs ++ x ∷ []) → bit x.0 d ≡ true → xs ≡ zeros d xs ++ ones d xs
+before_one : (d : ℕ) (xs : Entries) (x : KeyAndValue) → IsPart d (xs ++ x ∷ []) → bit x.0 d ≡ true → xs ≡ zeros d xs ++ ones d xs
 before_one d xs x part one =
     let around = around-one d xs x [] part one in
     let whole : xs ++ x ∷ [] ≡ (zeros d xs ++ ones d xs) ++ x ∷ [] =
@@ -60,7 +60,7 @@ less_fuel : (d : ℕ) → d < 256 → 256 - d ≡ suc (256 - (d + 1))
 less_fuel d lt = omega arith
 
 -- a chunk that results in the root of a part has the part's first entries, or collides
-pub front-collides : (n d : ℕ) (xs : Entries) (x : Entry) (ts : List (List ℕ)) (es : Entries) → IsPart d (xs ++ x ∷ []) → IsPart d es → is_near n (256 - d) d x.0 xs ≡ false
+pub front-collides : (n d : ℕ) (xs : Entries) (x : KeyAndValue) (ts : List (List ℕ)) (es : Entries) → IsPart d (xs ++ x ∷ []) → IsPart d es → is_near n (256 - d) d x.0 xs ≡ false
     → chain_root n d xs x ts ≡ part_root d es → ((ys : Entries) → es ≡ xs ++ x ∷ ys → ⊥) → Collides (first_difference (chain_inputs n d xs x ts) (front_inputs n d x.0 es))
 unfolding chain_root chain_inputs front_inputs
 front-collides zero d xs x ts es part part' lone meet other =

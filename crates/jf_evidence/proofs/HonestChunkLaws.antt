@@ -12,7 +12,7 @@ use Rattle.jf_hash.specs.Parts.{IsPart}
 use Rattle.jf_hash.specs.Maps.{Map, IsMap}
 use Rattle.jf_hash.proofs.RootLaws.{part_root-one, part_root-split, root-part_root}
 use Rattle.jf_hash.proofs.Split.{deeper}
-use Rattle.jf_evidence.specs.Ranges.{Entry, Entries, zero_bits, first_hash, range_proof_of, is_miscounted, is_crowded, range_root, range_refusal, last_key, chunk_entries, honest_chunk}
+use Rattle.jf_evidence.specs.Ranges.{KeyAndValue, Entries, zero_bits, first_hash, range_proof_of, is_miscounted, is_crowded, range_root, range_refusal, last_key, chunk_entries, honest_chunk}
 use Rattle.jf_evidence.specs.Proofs.{honest, honest_from}
 use Rattle.jf_evidence.specs.declared.range_proof.RangeProof.{RangeProof}
 use Rattle.jf_evidence.proofs.SiblingLaws.{rights, siblings_down, near_half, far_half, siblings_down-split, alone_or_more, siblings-down, right_siblings-rights}
@@ -25,19 +25,19 @@ use Rattle.jf_evidence.proofs.WrongChunkLaws.{last_key-push, is_crowded-near, ra
 
 -- ---- the way to an entry
 -- what the honest proof of an entry gives a chunk that ends with it
-record HonestWay (n d : ℕ) (xs : Entries) (x : Entry) (ys : Entries) (ts : List (List ℕ)) : Type 0 where
+record HonestWay (n d : ℕ) (xs : Entries) (x : KeyAndValue) (ys : Entries) (ts : List (List ℕ)) : Type 0 where
   short : length ts ≤ n
   top : chain_root (length ts) d xs x (rights d x.0 ts) ≡ part_root d (xs ++ x ∷ ys)
   count : length (rights d x.0 ts) ≡ zero_bits (length ts) d x.0
   lone : is_near (length ts) n d x.0 xs ≡ false
 
-alone_way : (n d : ℕ) (xs : Entries) (x : Entry) (ys : Entries) → xs ≡ [] → ys ≡ [] → HonestWay n d xs x ys (siblings_down n d x.0 (xs ++ x ∷ ys))
+alone_way : (n d : ℕ) (xs : Entries) (x : KeyAndValue) (ys : Entries) → xs ≡ [] → ys ≡ [] → HonestWay n d xs x ys (siblings_down n d x.0 (xs ++ x ∷ ys))
 unfolding siblings_down chain_root zero_bits
 alone_way n d [] x [] e f = record { short = omega arith; top = sym (part_root-one d x.0 x.1); count = refl; lone = refl }
 alone_way n d (y ∷ xs) x ys e f = absurd (cc)
 alone_way n d [] x (y ∷ ys) e f = absurd (cc)
 
-one_way : (n d : ℕ) (xs : Entries) (x : Entry) (ys : Entries) → IsPart d (xs ++ x ∷ ys) → 2 ≤ length (xs ++ x ∷ ys) → bit x.0 d ≡ true
+one_way : (n d : ℕ) (xs : Entries) (x : KeyAndValue) (ys : Entries) → IsPart d (xs ++ x ∷ ys) → 2 ≤ length (xs ++ x ∷ ys) → bit x.0 d ≡ true
     → HonestWay n (d + 1) (ones d xs) x ys (siblings_down n (d + 1) x.0 (ones d xs ++ x ∷ ys)) → HonestWay (suc n) d xs x ys (siblings_down (suc n) d x.0 (xs ++ x ∷ ys))
 unfolding chain_root zero_bits
 one_way n d xs x ys part two is below =
@@ -62,7 +62,7 @@ one_way n d xs x ys part two is below =
       lone = is_near-one (length ts) n d x.0 xs is ∙ below.lone;
     })
 
-zero_way : (n d : ℕ) (xs : Entries) (x : Entry) (ys : Entries) → IsPart d (xs ++ x ∷ ys) → 2 ≤ length (xs ++ x ∷ ys) → bit x.0 d ≡ false
+zero_way : (n d : ℕ) (xs : Entries) (x : KeyAndValue) (ys : Entries) → IsPart d (xs ++ x ∷ ys) → 2 ≤ length (xs ++ x ∷ ys) → bit x.0 d ≡ false
     → HonestWay n (d + 1) xs x (zeros d ys) (siblings_down n (d + 1) x.0 (xs ++ x ∷ zeros d ys)) → HonestWay (suc n) d xs x ys (siblings_down (suc n) d x.0 (xs ++ x ∷ ys))
 unfolding chain_root zero_bits
 zero_way n d xs x ys part two is below =
@@ -89,7 +89,7 @@ zero_way n d xs x ys part two is below =
       lone = is_near-zero (length ts) n d x.0 xs is ∙ ap (is_near (length ts) n (d + 1) x.0) around.before ∙ below.lone;
     })
 
-honest_way : (n d : ℕ) (xs : Entries) (x : Entry) (ys : Entries) → n ≡ 256 - d → IsPart d (xs ++ x ∷ ys) → HonestWay n d xs x ys (siblings_down n d x.0 (xs ++ x ∷ ys))
+honest_way : (n d : ℕ) (xs : Entries) (x : KeyAndValue) (ys : Entries) → n ≡ 256 - d → IsPart d (xs ++ x ∷ ys) → HonestWay n d xs x ys (siblings_down n d x.0 (xs ++ x ∷ ys))
 honest_way zero d xs x ys fuel part =
     elim (alone_or_more xs x ys) [ inl one ↦ alone_way zero d xs x ys one.0 one.1 | inr two ↦ absurd (let lt : d < 256 = deeper d (xs ++ x ∷ ys) part two in omega arith) ]
 honest_way (suc n) d xs x ys fuel part =
@@ -120,7 +120,7 @@ not_miscounted key proof short count = grind (arith, nat_tests)
 pub some_entry : (es : Entries) → 0 < length es → (length es == 0) ≡ false
 some_entry es some = grind (arith, nat_tests)
 
-accepted_by_last : (m : Map) (known fs ys : Entries) (x : Entry) → IsMap m → entries m ≡ (known ++ fs) ++ x ∷ ys → range_refusal (root m) known (fs ++ x ∷ []) (range_proof_of m x.0) ≡ None
+accepted_by_last : (m : Map) (known fs ys : Entries) (x : KeyAndValue) → IsMap m → entries m ≡ (known ++ fs) ++ x ∷ ys → range_refusal (root m) known (fs ++ x ∷ []) (range_proof_of m x.0) ≡ None
 accepted_by_last m known fs ys x is_map is =
     let xs : Entries = known ++ fs in
     let proof = range_proof_of m x.0 in

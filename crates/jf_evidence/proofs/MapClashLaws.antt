@@ -15,7 +15,7 @@ use Rattle.jf_hash.proofs.HashLaws.{E-IsKey, L-IsKey, N-IsKey}
 use Rattle.jf_hash.proofs.RootLaws.{part_root-none, part_root-one, part_root-split, root-part_root}
 use Rattle.jf_hash.proofs.Split.{deeper, zeros_part, ones_part}
 use Rattle.jf_hash.proofs.MapLaws.{map-from_entries}
-use Rattle.jf_evidence.specs.Ranges.{Entries, Entry}
+use Rattle.jf_evidence.specs.Ranges.{Entries, KeyAndValue}
 use Rattle.jf_evidence.specs.Inputs.{none_input, leaf_input, pair_input, value_input, first_difference, Collides}
 use Rattle.jf_evidence.specs.MapClashes.{part_inputs, entries_clash, maps_clash}
 use Rattle.jf_evidence.proofs.InputLaws.{E-input, L-input, N-input, V-input}
@@ -39,10 +39,10 @@ part_root-long d es = root_below-long (256 - d) d (map leaf_of es)
 pub root-none_input : (d : ℕ) → part_root d [] ≡ sha256 none_input
 root-none_input d = part_root-none d ∙ E-input
 
-pub root-leaf_input : (d : ℕ) (e : Entry) → part_root d (e ∷ []) ≡ sha256 (leaf_input e.0 (V e.1))
+pub root-leaf_input : (d : ℕ) (e : KeyAndValue) → part_root d (e ∷ []) ≡ sha256 (leaf_input e.0 (V e.1))
 root-leaf_input d e = part_root-one d e.0 e.1 ∙ L-input e.0 (V e.1)
 
-pub root-pair_input : (d : ℕ) (e f : Entry) (es : Entries) → IsPart d (e ∷ f ∷ es)
+pub root-pair_input : (d : ℕ) (e f : KeyAndValue) (es : Entries) → IsPart d (e ∷ f ∷ es)
     → part_root d (e ∷ f ∷ es) ≡ sha256 (pair_input (part_root (d + 1) (zeros d (e ∷ f ∷ es))) (part_root (d + 1) (ones d (e ∷ f ∷ es))))
 root-pair_input d e f es part =
     let two : 2 ≤ length (e ∷ f ∷ es) = omega arith in
@@ -57,7 +57,7 @@ pub same-leaf : (a b c d : List ℕ) → length a ≡ length c → leaf_input a 
 same-leaf a b c d long same = fronts a c b d long (cc)
 
 -- two leaves with one hash are the same entry, or collide
-pub leaves-collide : (e f : Entry) (u v : List (List ℕ)) → IsKey e.0 → IsKey f.0 → sha256 (leaf_input e.0 (V e.1)) ≡ sha256 (leaf_input f.0 (V f.1))
+pub leaves-collide : (e f : KeyAndValue) (u v : List (List ℕ)) → IsKey e.0 → IsKey f.0 → sha256 (leaf_input e.0 (V e.1)) ≡ sha256 (leaf_input f.0 (V f.1))
     → (e ≡ f → Collides (first_difference u v))
     → Collides (first_difference (leaf_input e.0 (V e.1) ∷ value_input e.1 ∷ u) (leaf_input f.0 (V f.1) ∷ value_input f.1 ∷ v))
 leaves-collide e f u v key key' meet rest =
@@ -68,7 +68,7 @@ leaves-collide e f u v key key' meet rest =
     rest (ap₂ (λ (a b : List ℕ). (a, b)) same.0 values)))
 
 -- of entries that agree in all 256 bits there is at most one
-pub too_deep : (d : ℕ) (e f : Entry) (es : Entries) → IsPart d (e ∷ f ∷ es) → zero ≡ 256 - d → ⊥
+pub too_deep : (d : ℕ) (e f : KeyAndValue) (es : Entries) → IsPart d (e ∷ f ∷ es) → zero ≡ 256 - d → ⊥
 too_deep d e f es part fuel = let lt : d < 256 = deeper d (e ∷ f ∷ es) part (omega arith) in absurd (omega arith)
 
 -- what the two halves of a part hash
@@ -85,7 +85,7 @@ parts-collide n d [] (f ∷ []) u v fuel part part' meet rest =
 parts-collide n d (e ∷ []) [] u v fuel part part' meet rest =
     step _ _ (value_input e.1 ∷ u) v (sym (root-leaf_input d e) ∙ meet ∙ root-none_input d) (λ one. absurd (cc))
 parts-collide n d (e ∷ []) (f ∷ []) u v fuel part part' meet rest =
-    leaves-collide e f u v part.keys.0 part'.keys.0 (sym (root-leaf_input d e) ∙ meet ∙ root-leaf_input d f) (λ same. rest (ap (λ (x : Entry). x ∷ []) same))
+    leaves-collide e f u v part.keys.0 part'.keys.0 (sym (root-leaf_input d e) ∙ meet ∙ root-leaf_input d f) (λ same. rest (ap (λ (x : KeyAndValue). x ∷ []) same))
 parts-collide zero d es (f ∷ g ∷ fs) u v fuel part part' meet rest = absurd (too_deep d f g fs part' fuel)
 parts-collide zero d (e ∷ f ∷ es) fs u v fuel part part' meet rest = absurd (too_deep d e f es part fuel)
 parts-collide (suc n) d [] (f ∷ g ∷ fs) u v fuel part part' meet rest =

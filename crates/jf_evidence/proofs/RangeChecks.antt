@@ -8,11 +8,11 @@ use Rattle.jf_path.specs.Keys.{key_cmp}
 use Rattle.jf_path.specs.Checks.{first_of}
 use Rattle.jf_path.proofs.BoolLaws.{both_so, T_from_not_false}
 use Rattle.jf_hash.proofs.KeyOrder.{below-rest, below_all-further, below-first, sorted-rest}
-use Rattle.jf_evidence.specs.Ranges.{Entry, Entries, last_key, range_root, is_miscounted, is_crowded, range_refusal, is_disordered}
+use Rattle.jf_evidence.specs.Ranges.{KeyAndValue, Entries, last_key, range_root, is_miscounted, is_crowded, range_refusal, is_disordered}
 use Rattle.jf_evidence.specs.declared.range_proof.RangeProof.{RangeProof}
 
 -- ---- rising keys
-pub sorted-more : (e f : Entry) (es : Entries) → key_cmp e.0 f.0 ≡ Less → T (is_sorted key_cmp (f ∷ es)) → T (is_sorted key_cmp (e ∷ f ∷ es))
+pub sorted-more : (e f : KeyAndValue) (es : Entries) → key_cmp e.0 f.0 ≡ Less → T (is_sorted key_cmp (f ∷ es)) → T (is_sorted key_cmp (e ∷ f ∷ es))
 sorted-more e f es lt sorted = both_so _ _ (both_so _ _ (subst (λ o. T (is_lt o)) (sym lt) tt) (below_all-further e.0 f.0 es lt (below-rest f es sorted))) sorted
 
 pub sorted-front : (xs ys : Entries) → T (is_sorted key_cmp (xs ++ ys)) → T (is_sorted key_cmp xs)
@@ -25,7 +25,7 @@ pub sorted-later : (xs ys : Entries) → T (is_sorted key_cmp (xs ++ ys)) → T 
 sorted-later [] ys sorted = sorted
 sorted-later (e ∷ xs) ys sorted = sorted-later xs ys (sorted-rest e (xs ++ ys) sorted)
 
-last_dropped : (e f : Entry) (es : Entries) → drop (length (e ∷ f ∷ es) - 1) (e ∷ f ∷ es) ≡ drop (length (f ∷ es) - 1) (f ∷ es)
+last_dropped : (e f : KeyAndValue) (es : Entries) → drop (length (e ∷ f ∷ es) - 1) (e ∷ f ∷ es) ≡ drop (length (f ∷ es) - 1) (f ∷ es)
 last_dropped e f es =
     let n : length (e ∷ f ∷ es) - 1 ≡ suc (length es) = omega arith in
     let k : length (f ∷ es) - 1 ≡ length es = omega arith in
@@ -83,6 +83,6 @@ pub snoc : {X : Type 0} (x : X) (xs : List X) → (ys : List X) × (y : X) × (x
 snoc x [] = ([], x, refl)
 snoc x (z ∷ xs) = let r = snoc z xs in (x ∷ r.0, r.1, ap (λ t. x ∷ t) r.2)
 
-pub last-of_some : (xs : Entries) → (length xs == 0) ≡ false → (ys : Entries) × (y : Entry) × (xs ≡ ys ++ y ∷ [])
+pub last-of_some : (xs : Entries) → (length xs == 0) ≡ false → (ys : Entries) × (y : KeyAndValue) × (xs ≡ ys ++ y ∷ [])
 last-of_some [] some = absurd (cc)
 last-of_some (x ∷ xs) some = snoc x xs

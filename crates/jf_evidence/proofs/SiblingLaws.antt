@@ -6,7 +6,7 @@ use Rattle.std.proofs.lemmas.List.{reverse-append, reverse-reverse}
 use Rattle.jf_path.specs.Keys.{bit}
 use Rattle.jf_hash.specs.Roots.{zeros, ones, part_root, leaf_of, Leaf, leaves_root}
 use Rattle.jf_hash.proofs.RootLaws.{filter-leaves}
-use Rattle.jf_evidence.specs.Ranges.{Entries, right_siblings, Entry}
+use Rattle.jf_evidence.specs.Ranges.{Entries, right_siblings, KeyAndValue}
 use Rattle.jf_evidence.specs.Proofs.{near, far, honest_below}
 
 -- ---- all of them
@@ -94,7 +94,7 @@ pub right_siblings-rights : (key : List ℕ) (ss : List (List ℕ)) → right_si
 right_siblings-rights key ss = right_siblings-rights_to key ss ∙ ap (rights_to 0 key) (sym (reverse-reverse ss)) ∙ rights_to-turned 0 key (reverse ss)
 
 -- ---- one entry alone, or more
-pub alone_or_more : (xs : Entries) (x : Entry) (ys : Entries) → ((xs ≡ []) × (ys ≡ [])) ⊎ (2 ≤ length (xs ++ x ∷ ys))
+pub alone_or_more : (xs : Entries) (x : KeyAndValue) (ys : Entries) → ((xs ≡ []) × (ys ≡ [])) ⊎ (2 ≤ length (xs ++ x ∷ ys))
 alone_or_more [] x [] = inl (refl, refl)
 alone_or_more [] x (y ∷ ys) = inr (omega arith)
 alone_or_more (e ∷ xs) x ys = inr (omega (arith, length-append xs (x ∷ ys)))

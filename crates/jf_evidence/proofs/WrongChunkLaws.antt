@@ -11,7 +11,7 @@ use Rattle.jf_hash.specs.Maps.{Map, IsMap}
 use Rattle.jf_hash.specs.Parts.{IsPart}
 use Rattle.jf_hash.specs.Roots.{root}
 use Rattle.jf_hash.proofs.RootLaws.{root-part_root}
-use Rattle.jf_evidence.specs.Ranges.{Entry, Entries, last_key, is_crowded, range_root, range_root_below, range_refusal}
+use Rattle.jf_evidence.specs.Ranges.{KeyAndValue, Entries, last_key, is_crowded, range_root, range_root_below, range_refusal}
 use Rattle.jf_evidence.specs.declared.range_proof.RangeProof.{RangeProof}
 use Rattle.jf_evidence.specs.Inputs.{first_difference, Collides}
 use Rattle.jf_evidence.specs.FrontClashes.{range_inputs, front_inputs, front_clash}
@@ -22,22 +22,22 @@ use Rattle.jf_evidence.proofs.FrontClashLaws.{front-collides}
 use Rattle.jf_evidence.proofs.RangeChecks.{accepted-chunk, sorted-after_last, last-of_some}
 
 -- ---- by the entries before the last
-pub last_key-push : (xs : Entries) (x : Entry) → last_key (xs ++ x ∷ []) ≡ x.0
-last_key-push xs x = ap (λ (e : Entry). e.0) (last_entry-push xs x)
+pub last_key-push : (xs : Entries) (x : KeyAndValue) → last_key (xs ++ x ∷ []) ≡ x.0
+last_key-push xs x = ap (λ (e : KeyAndValue). e.0) (last_entry-push xs x)
 
 -- whether another entry is near the last one
-pub is_crowded-near : (xs : Entries) (x : Entry) (proof : RangeProof) → is_crowded (xs ++ x ∷ []) proof ≡ is_near proof.depth 256 0 x.0 xs
+pub is_crowded-near : (xs : Entries) (x : KeyAndValue) (proof : RangeProof) → is_crowded (xs ++ x ∷ []) proof ≡ is_near proof.depth 256 0 x.0 xs
 unfolding common_bits
 is_crowded-near xs x proof =
     ap₂ (λ (k : List ℕ) (es : Entries). list_any (λ e. nat_le proof.depth (common_bits e.0 k)) es) (last_key-push xs x) (all_but_last-push xs x)
 
-pub range_root-chain : (xs : Entries) (x : Entry) (proof : RangeProof) → range_root (xs ++ x ∷ []) proof ≡ chain_root proof.depth 0 xs x (reverse proof.siblings)
+pub range_root-chain : (xs : Entries) (x : KeyAndValue) (proof : RangeProof) → range_root (xs ++ x ∷ []) proof ≡ chain_root proof.depth 0 xs x (reverse proof.siblings)
 unfolding range_root
 range_root-chain xs x proof =
     ap₂ (λ (k : List ℕ) (s : List (List ℕ)). range_root_below proof.depth 0 k (xs ++ x ∷ []) s) (last_key-push xs x) (sym (reverse-reverse proof.siblings))
     ∙ range_root_below-chain proof.depth 0 xs x (reverse proof.siblings)
 
-front_clash-chain : (m : Map) (xs : Entries) (x : Entry) (proof : RangeProof)
+front_clash-chain : (m : Map) (xs : Entries) (x : KeyAndValue) (proof : RangeProof)
     → front_clash m (xs ++ x ∷ []) proof ≡ first_difference (chain_inputs proof.depth 0 xs x (reverse proof.siblings)) (front_inputs proof.depth 0 x.0 (entries m))
 unfolding front_clash
 front_clash-chain m xs x proof =
@@ -45,7 +45,7 @@ front_clash-chain m xs x proof =
     ∙ ap (λ (s : List (List ℕ)). first_difference (range_inputs proof.depth 0 x.0 (xs ++ x ∷ []) s) (front_inputs proof.depth 0 x.0 (entries m))) (sym (reverse-reverse proof.siblings))
     ∙ ap (λ (us : List (List ℕ)). first_difference us (front_inputs proof.depth 0 x.0 (entries m))) (range_inputs-chain proof.depth 0 xs x (reverse proof.siblings))
 
-collides_by_last : (m : Map) (xs : Entries) (x : Entry) (proof : RangeProof) → IsMap m → IsPart 0 (xs ++ x ∷ []) → is_crowded (xs ++ x ∷ []) proof ≡ false → range_root (xs ++ x ∷ []) proof ≡ root m
+collides_by_last : (m : Map) (xs : Entries) (x : KeyAndValue) (proof : RangeProof) → IsMap m → IsPart 0 (xs ++ x ∷ []) → is_crowded (xs ++ x ∷ []) proof ≡ false → range_root (xs ++ x ∷ []) proof ≡ root m
     → take (length (xs ++ x ∷ [])) (entries m) ≢ xs ++ x ∷ [] → Collides (front_clash m (xs ++ x ∷ []) proof)
 collides_by_last m xs x proof is_map part lone top other =
     subst Collides (sym (front_clash-chain m xs x proof))

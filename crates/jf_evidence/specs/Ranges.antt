@@ -21,15 +21,15 @@ first_hash [] = []
 first_hash (t ∷ ts) = t
 
 -- a key and its value
-abbrev pub Entry : Type 0
-Entry = List ℕ × List ℕ
+abbrev pub KeyAndValue : Type 0
+KeyAndValue = List ℕ × List ℕ
 
 -- entries in the order of their keys
 abbrev pub Entries : Type 0
-Entries = List Entry
+Entries = List KeyAndValue
 
 -- the last of entries, or an empty entry if there is none
-abbrev pub last_entry : Entries → Entry
+abbrev pub last_entry : Entries → KeyAndValue
 last_entry es = unwrap_or (last_or None es) ([], [])
 
 -- the key of the last entry

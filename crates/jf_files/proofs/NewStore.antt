@@ -14,7 +14,7 @@ use Rattle.jf_hash.proofs.RootLaws.{root-empty}
 use Rattle.jf_hash.proofs.HashLaws.{E-IsKey}
 use Rattle.jf_model.specs.Nodes.{plain_node, Path}
 use Rattle.jf_model.proofs.NodeLaws.{nodes-empty}
-use Rattle.jf_frame.specs.Framed.{Framed}
+use Rattle.jf_frame.specs.Framed.{FramedRecord}
 use Rattle.jf_frame.specs.Framing.{records, records_from, size_of, payload_of, after_record, number_of, frame}
 use Rattle.jf_pair.specs.Files.{HoldsLive}
 use Rattle.jf_codec.specs.Spelling.{node_bytes}
@@ -23,7 +23,7 @@ use Rattle.jf_payload.specs.declared.records.Record.{Record}
 use Rattle.jf_payload.specs.Spelling.{record_bytes, IsCheckpoint, IsSpelling}
 use Rattle.jf_payload.specs.Laws.{SpelledIsSpelling}
 use Rattle.jf_payload.specs.declared.records.Record.TheVariants as «record»
-use Rattle.jf_standing.specs.Named.{Named, not_stale}
+use Rattle.jf_standing.specs.Named.{NamedNode, not_stale}
 use Rattle.jf_standing.specs.Building.{node_of, nodes_by_name, new_standing, checkpoint_of}
 use Rattle.jf_standing.specs.OrderLaws.{CheckpointsGive, NewIsSound}
 use Rattle.jf_files.specs.NewStore.{empty_root, new_store_payload, new_store_files, new_store_bytes}
@@ -38,7 +38,7 @@ E_is = refl
 root_is : root fin.empty ≡ empty_root
 root_is = root-empty ∙ E_is
 
-abbrev one_node : List Named
+abbrev one_node : List NamedNode
 one_node = (record { version = 0; path = [] }, node.Null, not_stale) ∷ []
 
 abbrev first : Record
@@ -50,7 +50,7 @@ with_node = refl
 
 -- the checkpoint of a new store, written out
 pub first_is : checkpoint_of 1 (new_standing format.Two) ≡ first
-first_is = ap₂ (λ (r : List ℕ) (ns : List Named). «record».Checkpoint 1 0 0 0 (r ∷ []) ns) root_is (ap (λ (ps : List (Path × Part)). nodes_by_name (map (node_of format.Two (λ path. 0)) ps)) nodes-empty ∙ with_node)
+first_is = ap₂ (λ (r : List ℕ) (ns : List NamedNode). «record».Checkpoint 1 0 0 0 (r ∷ []) ns) root_is (ap (λ (ps : List (Path × Part)). nodes_by_name (map (node_of format.Two (λ path. 0)) ps)) nodes-empty ∙ with_node)
 
 first_bytes : record_bytes format.Two first ≡ new_store_payload
 unfolding record_bytes eight_bytes node_bytes path_bytes
@@ -70,7 +70,7 @@ first_sound = record {
   count = omega arith;
 }
 
-abbrev framed_first : Framed
+abbrev framed_first : FramedRecord
 framed_first = record { kind = 5; offset = 0; payload = new_store_payload }
 
 first_spelled : IsSpelling format.Two (checkpoint_of 1 (new_standing format.Two)) 5 new_store_payload

@@ -5,7 +5,7 @@ use Rattle.std.proofs.lemmas.List.{length-append}
 use Rattle.jf_path.specs.Faults.{HasCause}
 use Rattle.jf_io.specs.declared.piece.TheConstants.{MAX_PIECE}
 use Rattle.jf_io.proofs.FirstLines.{all_first}
-use Rattle.jf_input.specs.Feeds.{Took, ReadsAll, ReadsLinesOf, ReadsFew, Fed}
+use Rattle.jf_input.specs.Feeds.{Took, ReadsAll, ReadsLinesOf, ReadsFew, HasFed}
 use Rattle.jf_input.specs.declared.feeding.Feeding.{Feeding}
 use Rattle.jf_input.specs.declared.feeding.Feeding.TheVariants as feeding
 use Rattle.jf_input.proofs.FirstRead.{has_read_first}
@@ -209,7 +209,7 @@ module _ (old : Engine) (source source' text text' : Option (List ℕ)) where
   -- ---- the lines of a source were fed to what shows such a state
   module _ {M : Type 0} (shown : M → FollowState) (first last : M) (is_started : shown first ≡ started old) where
     abbrev FedBy : Feeding FollowStop → Type 0
-    FedBy how = Fed (λ m line n r. TakesLandingLine (shown m) line (shown n) r) (λ m n r. EndsLandingLines (shown m) (shown n) r) (λ m n. Unit {0}) MAX_PIECE how first last source source' None None
+    FedBy how = HasFed (λ m line n r. TakesLandingLine (shown m) line (shown n) r) (λ m n r. EndsLandingLines (shown m) (shown n) r) (λ m n. Unit {0}) MAX_PIECE how first last source source' None None
 
     took_of : (how : Feeding FollowStop) (f : FedBy how) → Took TakesLandingLine (started old) f.done (shown f.mid) f.said
     took_of how f = subst (λ (s : FollowState). Took TakesLandingLine s f.done (shown f.mid) f.said) is_started (took_shown shown f.done first f.mid f.said f.took)

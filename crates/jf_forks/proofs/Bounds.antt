@@ -9,7 +9,7 @@ use Rattle.jf_model.specs.declared.entries.Parent.{Parent}
 use Rattle.jf_model.specs.Batches.{key_count}
 use Rattle.jf_model.specs.declared.entries.Parent.TheVariants as parent
 use Rattle.jf_model.proofs.ForkLists.{on_own}
-use Rattle.jf_forks.specs.Tables.{first_fault, Table, forks_of, fault_of_fork, Grown, IsTable, keys_of, chain_fault}
+use Rattle.jf_forks.specs.Tables.{first_fault, Table, forks_of, fault_of_fork, ForkWithMap, IsTable, keys_of, chain_fault}
 use Rattle.jf_forks.specs.declared.fault.ForkFault.{ForkFault}
 use Rattle.jf_forks.specs.declared.fault.ForkFault.TheVariants as fault
 
@@ -57,6 +57,6 @@ chain_bounds id t list sound may is =
     let long : length list ≡ length (chain fs id) = ap length is ∙ length-map (chain fs id) (λ (f : Fork). f.batch) in
     let own = some_are id (chain fs id) (on_own id fs (is_live id t none.0)) in (
       omega (arith, long, own),
-      omega (arith, long, chain-short fs id, length-map t.live (λ (g : Grown). g.fork), sound.few),
+      omega (arith, long, chain-short fs id, length-map t.live (λ (g : ForkWithMap). g.fork), sound.few),
       subst (λ bs. key_count bs ≤ 10000) (sym is) (few_keys (keys_of id t) none.1),
     )

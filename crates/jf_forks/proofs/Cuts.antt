@@ -7,8 +7,8 @@ use Rattle.std.specs.List.{remove}
 use Rattle.jf_model.specs.Forks.{AreForks, Fork, descends, drop_count, is_parent, is_among, on_head, of_parent}
 use Rattle.jf_model.specs.declared.entries.Parent.{Parent}
 use Rattle.jf_model.specs.declared.entries.Parent.TheVariants as parent
-use Rattle.jf_forks.specs.Tables.{Grown, forks_of, grown_without, grown_settled}
-use Rattle.jf_forks.specs.Worked.{Worked}
+use Rattle.jf_forks.specs.Tables.{ForkWithMap, forks_of, grown_without, grown_settled}
+use Rattle.jf_forks.specs.Worked.{IsWorkedFrom}
 use Rattle.jf_forks.specs.declared.live.LiveFork.{LiveFork}
 use Rattle.jf_forks.specs.Lives.{fork_with_map}
 use Rattle.jf_forks.proofs.TableLaws.{forks_of-grown_without, forks_of-grown_settled}
@@ -35,7 +35,7 @@ module _ {X : Type 0} where
   length_removed (x ∷ xs) zero lt = omega arith
   length_removed (x ∷ xs) (suc i) lt = let e = length_removed xs i (omega arith) in omega arith
 
-map_removed : {X : Type 0} (h : X → Grown) (xs : List X) (i : ℕ) → map h (remove xs i) ≡ remove (map h xs) i
+map_removed : {X : Type 0} (h : X → ForkWithMap) (xs : List X) (i : ℕ) → map h (remove xs i) ≡ remove (map h xs) i
 map_removed h [] zero = refl
 map_removed h [] (suc i) = refl
 map_removed h (x ∷ xs) zero = refl
@@ -43,28 +43,28 @@ map_removed h (x ∷ xs) (suc i) = ap (λ t. h x ∷ t) (map_removed h xs i)
 
 -- ---- one more fork
 -- at the end of the list nothing is worked yet
-pub worked_none : (at : ℕ) (work : List Grown → List Grown) (gs : List Grown) → at ≡ length gs → work [] ≡ [] → Worked at work gs gs
+pub worked_none : (at : ℕ) (work : List ForkWithMap → List ForkWithMap) (gs : List ForkWithMap) → at ≡ length gs → work [] ≡ [] → IsWorkedFrom at work gs gs
 worked_none at work gs is none = record { front = refl; back = past at gs is ∙ sym none ∙ ap work (sym (past at gs is)); within = omega arith }
   where
-    past : (at : ℕ) (gs : List Grown) → at ≡ length gs → drop at gs ≡ []
+    past : (at : ℕ) (gs : List ForkWithMap) → at ≡ length gs → drop at gs ≡ []
     past zero [] is = refl
     past zero (g ∷ gs) is = absurd (omega arith)
     past (suc at) [] is = refl
     past (suc at) (g ∷ gs) is = past at gs (omega arith)
 
-module _ (at : ℕ) (work : List Grown → List Grown) (old new : List Grown) (w : Worked (at + 1) work old new) where
+module _ (at : ℕ) (work : List ForkWithMap → List ForkWithMap) (old new : List ForkWithMap) (w : IsWorkedFrom (at + 1) work old new) where
   front_more : take at new ≡ take at old
   front_more = sym (take-take at (at + 1) new (omega arith)) ∙ ap (take at) w.front ∙ take-take at (at + 1) old (omega arith)
 
   -- the fork at the place is the one that was there
-  pub same_fork : (d : Grown) → get_or new at d ≡ get_or old at d
+  pub same_fork : (d : ForkWithMap) → get_or new at d ≡ get_or old at d
   same_fork d = sym (get_or-take (at + 1) new at d (omega arith)) ∙ ap (λ xs. get_or xs at d) w.front ∙ get_or-take (at + 1) old at d (omega arith)
 
   long : at < length new
   long = let e = w.within in omega arith
 
   -- the fork at the place stays
-  pub worked_stays : (d : Grown) → at < length old → work (get_or old at d ∷ drop (at + 1) old) ≡ get_or old at d ∷ work (drop (at + 1) old) → Worked at work old new
+  pub worked_stays : (d : ForkWithMap) → at < length old → work (get_or old at d ∷ drop (at + 1) old) ≡ get_or old at d ∷ work (drop (at + 1) old) → IsWorkedFrom at work old new
   worked_stays d lt is = record {
     front = front_more;
     back = drop_more new at d long ∙ ap₂ (λ g gs. g ∷ gs) (same_fork d) w.back ∙ sym is ∙ ap work (sym (drop_more old at d lt));
@@ -72,7 +72,7 @@ module _ (at : ℕ) (work : List Grown → List Grown) (old new : List Grown) (w
   }
 
   -- the fork at the place goes
-  pub worked_goes : (d : Grown) → at < length old → work (get_or old at d ∷ drop (at + 1) old) ≡ work (drop (at + 1) old) → Worked at work old (remove new at)
+  pub worked_goes : (d : ForkWithMap) → at < length old → work (get_or old at d ∷ drop (at + 1) old) ≡ work (drop (at + 1) old) → IsWorkedFrom at work old (remove new at)
   worked_goes d lt is = record {
     front = take_removed new at ∙ front_more;
     back = drop_removed new at long ∙ w.back ∙ sym is ∙ ap work (sym (drop_more old at d lt));
@@ -80,14 +80,14 @@ module _ (at : ℕ) (work : List Grown → List Grown) (old new : List Grown) (w
   }
 
   -- the fork at the place stays, changed
-  pub worked_set : (d g : Grown) → at < length old → work (get_or old at d ∷ drop (at + 1) old) ≡ g ∷ work (drop (at + 1) old) → Worked at work old (set new at g)
+  pub worked_set : (d g : ForkWithMap) → at < length old → work (get_or old at d ∷ drop (at + 1) old) ≡ g ∷ work (drop (at + 1) old) → IsWorkedFrom at work old (set new at g)
   worked_set d g lt is = record {
     front = take-set new at g ∙ front_more;
     back = drop-set new at g long ∙ ap (λ gs. g ∷ gs) w.back ∙ sym is ∙ ap work (sym (drop_more old at d lt));
     within = let e = long in omega (arith, long_set new at g);
   }
     where
-      long_set : (gs : List Grown) (i : ℕ) (g : Grown) → length (set gs i g) ≡ length gs
+      long_set : (gs : List ForkWithMap) (i : ℕ) (g : ForkWithMap) → length (set gs i g) ≡ length gs
       long_set [] i g = refl
       long_set (h ∷ gs) zero g = refl
       long_set (h ∷ gs) (suc i) g = ap suc (long_set gs i g)
@@ -97,11 +97,11 @@ pub length_map : {X Y : Type 0} (h : X → Y) (xs : List X) → length (map h xs
 length_map h [] = refl
 length_map h (x ∷ xs) = ap suc (length_map h xs)
 
-no_fork : Grown
+no_fork : ForkWithMap
 no_fork = record { fork = record { id = 0; parent = parent.Head; batch = [] }; map = fin.empty }
 
 -- the forks after a place are forks too
-pub forks_after : (at bound : ℕ) (gs : List Grown) → at < length gs → AreForks bound (forks_of (drop at gs)) → (b : ℕ) × AreForks b (forks_of (drop (at + 1) gs))
+pub forks_after : (at bound : ℕ) (gs : List ForkWithMap) → at < length gs → AreForks bound (forks_of (drop at gs)) → (b : ℕ) × AreForks b (forks_of (drop (at + 1) gs))
 forks_after at bound gs lt sound =
     let h : AreForks bound (forks_of (get_or gs at no_fork ∷ drop (at + 1) gs)) = subst (λ hs. AreForks bound (forks_of hs)) (drop_more gs at no_fork lt) sound in
     (_, h.2)
@@ -113,7 +113,7 @@ drop_count-few id (f ∷ fs) =
     elim (f.id == id || descends id fs f) as (λ b. cond b (1 + drop_count id fs) (drop_count id fs) ≤ length (f ∷ fs)) [ true ↦ omega arith | false ↦ omega arith ]
 
 -- the fork at a place and those dropped after it are no more than there are
-pub count_room : (at id n : ℕ) (gs : List Grown) → at < length gs → n ≡ drop_count id (forks_of (drop (at + 1) gs)) → n + 1 ≤ length gs
+pub count_room : (at id n : ℕ) (gs : List ForkWithMap) → at < length gs → n ≡ drop_count id (forks_of (drop (at + 1) gs)) → n + 1 ≤ length gs
 count_room at id n gs within is = omega (arith, is, drop_count-few id (forks_of (drop (at + 1) gs)), length_map (λ g. g.fork) (drop (at + 1) gs), length-drop (at + 1) gs)
 
 any_default : (ls : List LiveFork) (i : ℕ) (d e : LiveFork) → i < length ls → get_or ls i d ≡ get_or ls i e
@@ -121,8 +121,8 @@ any_default [] i d e lt = absurd (omega arith)
 any_default (l ∷ ls) zero d e lt = refl
 any_default (l ∷ ls) (suc i) d e lt = any_default ls i d e (omega arith)
 
-module _ (at id bound : ℕ) (xs ys : List LiveFork) (x : LiveFork) (work : List Grown → List Grown) (w : Worked (at + 1) work (map fork_with_map xs) (map fork_with_map ys)) (lt : at < length xs) (is : x ≡ get_or ys at x) (sound : AreForks bound (forks_of (drop at (map fork_with_map xs)))) where
-  rest : List Grown
+module _ (at id bound : ℕ) (xs ys : List LiveFork) (x : LiveFork) (work : List ForkWithMap → List ForkWithMap) (w : IsWorkedFrom (at + 1) work (map fork_with_map xs) (map fork_with_map ys)) (lt : at < length xs) (is : x ≡ get_or ys at x) (sound : AreForks bound (forks_of (drop at (map fork_with_map xs)))) where
+  rest : List ForkWithMap
   rest = drop (at + 1) (map fork_with_map xs)
 
   within : at < length (map fork_with_map xs)
@@ -164,17 +164,17 @@ module _ (at id bound : ℕ) (xs ys : List LiveFork) (x : LiveFork) (work : List
   pub same_item : (m : LiveFork) → m ≡ get_or ys at m → m ≡ x
   same_item m h = h ∙ any_default ys at m x (let e = w.within in omega (arith, length_map fork_with_map ys)) ∙ sym is
 
-  pub stays_worked : work (fork_with_map x ∷ drop (at + 1) (map fork_with_map xs)) ≡ fork_with_map x ∷ work (drop (at + 1) (map fork_with_map xs)) → Worked at work (map fork_with_map xs) (map fork_with_map ys)
+  pub stays_worked : work (fork_with_map x ∷ drop (at + 1) (map fork_with_map xs)) ≡ fork_with_map x ∷ work (drop (at + 1) (map fork_with_map xs)) → IsWorkedFrom at work (map fork_with_map xs) (map fork_with_map ys)
   stays_worked h = worked_stays at work (map fork_with_map xs) (map fork_with_map ys) w (fork_with_map x) within (ap (λ g. work (g ∷ drop (at + 1) (map fork_with_map xs))) same_here ∙ h ∙ ap (λ g. g ∷ work (drop (at + 1) (map fork_with_map xs))) (sym same_here))
 
-  pub goes_worked : work (fork_with_map x ∷ drop (at + 1) (map fork_with_map xs)) ≡ work (drop (at + 1) (map fork_with_map xs)) → Worked at work (map fork_with_map xs) (map fork_with_map (remove ys at))
-  goes_worked h = subst (Worked at work (map fork_with_map xs)) (sym (map_removed fork_with_map ys at)) (worked_goes at work (map fork_with_map xs) (map fork_with_map ys) w (fork_with_map x) within (ap (λ g. work (g ∷ drop (at + 1) (map fork_with_map xs))) same_here ∙ h))
+  pub goes_worked : work (fork_with_map x ∷ drop (at + 1) (map fork_with_map xs)) ≡ work (drop (at + 1) (map fork_with_map xs)) → IsWorkedFrom at work (map fork_with_map xs) (map fork_with_map (remove ys at))
+  goes_worked h = subst (IsWorkedFrom at work (map fork_with_map xs)) (sym (map_removed fork_with_map ys at)) (worked_goes at work (map fork_with_map xs) (map fork_with_map ys) w (fork_with_map x) within (ap (λ g. work (g ∷ drop (at + 1) (map fork_with_map xs))) same_here ∙ h))
 
-  pub set_worked : (y : LiveFork) → work (fork_with_map x ∷ drop (at + 1) (map fork_with_map xs)) ≡ fork_with_map y ∷ work (drop (at + 1) (map fork_with_map xs)) → Worked at work (map fork_with_map xs) (map fork_with_map (set ys at y))
-  set_worked y h = subst (Worked at work (map fork_with_map xs)) (sym (map-set fork_with_map ys at y)) (worked_set at work (map fork_with_map xs) (map fork_with_map ys) w (fork_with_map x) (fork_with_map y) within (ap (λ g. work (g ∷ drop (at + 1) (map fork_with_map xs))) same_here ∙ h))
+  pub set_worked : (y : LiveFork) → work (fork_with_map x ∷ drop (at + 1) (map fork_with_map xs)) ≡ fork_with_map y ∷ work (drop (at + 1) (map fork_with_map xs)) → IsWorkedFrom at work (map fork_with_map xs) (map fork_with_map (set ys at y))
+  set_worked y h = subst (IsWorkedFrom at work (map fork_with_map xs)) (sym (map-set fork_with_map ys at y)) (worked_set at work (map fork_with_map xs) (map fork_with_map ys) w (fork_with_map x) (fork_with_map y) within (ap (λ g. work (g ∷ drop (at + 1) (map fork_with_map xs))) same_here ∙ h))
 
 -- ---- one fork when id is dropped
-module _ (id : ℕ) (g : Grown) (gs : List Grown) (bound : ℕ) (sound : AreForks bound (g.fork ∷ forks_of gs)) (t : Bool) (test : t ≡ (not (g.fork.id == id) && is_parent g.fork.parent (forks_of (grown_without id gs)))) where
+module _ (id : ℕ) (g : ForkWithMap) (gs : List ForkWithMap) (bound : ℕ) (sound : AreForks bound (g.fork ∷ forks_of gs)) (t : Bool) (test : t ≡ (not (g.fork.id == id) && is_parent g.fork.parent (forks_of (grown_without id gs)))) where
   goes_is : (g.fork.id == id || descends id (forks_of gs) g.fork) ≡ not t
   goes_is =
       stays_is g.fork.id id g.fork (forks_of gs) sound.2 sound.1
@@ -193,11 +193,11 @@ module _ (id : ℕ) (g : Grown) (gs : List Grown) (bound : ℕ) (sound : AreFork
   count_goes is = ap (λ b. cond b (1 + drop_count id (forks_of gs)) (drop_count id (forks_of gs))) (goes_is ∙ ap not is)
 
 -- ---- one fork when id has landed
-module _ (id : ℕ) (g : Grown) (gs : List Grown) (bound : ℕ) (sound : AreForks bound (g.fork ∷ forks_of gs)) where
+module _ (id : ℕ) (g : ForkWithMap) (gs : List ForkWithMap) (bound : ℕ) (sound : AreForks bound (g.fork ∷ forks_of gs)) where
   pub landed_head : g.fork.parent ≡ parent.Head → grown_settled id (g ∷ gs) ≡ grown_settled id gs
   landed_head is = ap (λ b. cond b (record { fork = on_head id g.fork; map = g.map } ∷ grown_settled id gs) (grown_settled id gs)) (on_none id g.fork (forks_of gs) is)
 
-  pub landed_child : (q : ℕ) (h : Grown) → g.fork.parent ≡ parent.Fork q → q ≡ id → h ≡ record { fork = record { id = g.fork.id; parent = parent.Head; batch = g.fork.batch }; map = g.map } → grown_settled id (g ∷ gs) ≡ h ∷ grown_settled id gs
+  pub landed_child : (q : ℕ) (h : ForkWithMap) → g.fork.parent ≡ parent.Fork q → q ≡ id → h ≡ record { fork = record { id = g.fork.id; parent = parent.Head; batch = g.fork.batch }; map = g.map } → grown_settled id (g ∷ gs) ≡ h ∷ grown_settled id gs
   landed_child q h is same new =
       ap (λ b. cond b (record { fork = on_head id g.fork; map = g.map } ∷ grown_settled id gs) (grown_settled id gs)) (on_it id q g.fork (forks_of gs) is same sound.1)
       ∙ ap (λ p. record { fork = record { id = g.fork.id; parent = p; batch = g.fork.batch }; map = g.map } ∷ grown_settled id gs)
@@ -217,5 +217,5 @@ module _ (id : ℕ) (g : Grown) (gs : List Grown) (bound : ℕ) (sound : AreFork
   landed_goes q is other none = ap (λ b. cond b (record { fork = on_head id g.fork; map = g.map } ∷ grown_settled id gs) (grown_settled id gs)) (stands_is q is other ∙ none)
 
 -- a fork, with the head as its parent
-abbrev pub grown_on_head : LiveFork → Grown
+abbrev pub grown_on_head : LiveFork → ForkWithMap
 grown_on_head f = record { fork = record { id = f.id; parent = parent.Head; batch = f.batch }; map = f.tree }

@@ -9,10 +9,10 @@ use Rattle.jf_model.specs.declared.entries.Parent.{Parent}
 use Rattle.jf_model.specs.declared.entries.Parent.TheVariants as parent
 use Rattle.jf_model.proofs.ForkLaws.{chain-without, fork_map-settled, fork_map-older}
 use Rattle.jf_model.proofs.ForkLists.{none_above, below_parent, chain-among}
-use Rattle.jf_forks.specs.Tables.{Grown, forks_of, grown_without, grown_settled, AreGrown, map_of_fork}
+use Rattle.jf_forks.specs.Tables.{ForkWithMap, forks_of, grown_without, grown_settled, AreGrown, map_of_fork}
 
 -- the forks that stay are those of the definition
-pub forks_of-grown_without : (id : ℕ) (gs : List Grown) → forks_of (grown_without id gs) ≡ without id (forks_of gs)
+pub forks_of-grown_without : (id : ℕ) (gs : List ForkWithMap) → forks_of (grown_without id gs) ≡ without id (forks_of gs)
 forks_of-grown_without id [] = refl
 forks_of-grown_without id (g ∷ gs) =
     elim (g.fork.id == id || descends id (forks_of gs) g.fork) as (λ b. forks_of (cond b (grown_without id gs) (g ∷ grown_without id gs)) ≡ cond b (without id (forks_of gs)) (g.fork ∷ without id (forks_of gs))) [
@@ -20,7 +20,7 @@ forks_of-grown_without id (g ∷ gs) =
       | false ↦ ap (λ fs. g.fork ∷ fs) (forks_of-grown_without id gs)
     ]
 
-pub forks_of-grown_settled : (id : ℕ) (gs : List Grown) → forks_of (grown_settled id gs) ≡ forks_after_landing id (forks_of gs)
+pub forks_of-grown_settled : (id : ℕ) (gs : List ForkWithMap) → forks_of (grown_settled id gs) ≡ forks_after_landing id (forks_of gs)
 forks_of-grown_settled id [] = refl
 forks_of-grown_settled id (g ∷ gs) =
     elim (descends id (forks_of gs) g.fork) as (λ b. forks_of (cond b (record { fork = on_head id g.fork; map = g.map } ∷ grown_settled id gs) (grown_settled id gs)) ≡ cond b (on_head id g.fork ∷ forks_after_landing id (forks_of gs)) (forks_after_landing id (forks_of gs))) [
@@ -37,7 +37,7 @@ parent_map-kept m id fs (parent.Fork q) h = ap (λ c. fork_map_of c) (chain-with
     fork_map_of c = apply_all m (batches c)
 
 -- forks that stay after a drop keep their maps
-pub AreGrown-grown_without : (m : Map) (id : ℕ) (gs : List Grown) → AreGrown m gs → AreGrown m (grown_without id gs)
+pub AreGrown-grown_without : (m : Map) (id : ℕ) (gs : List ForkWithMap) → AreGrown m gs → AreGrown m (grown_without id gs)
 AreGrown-grown_without m id [] h = tt
 AreGrown-grown_without m id (g ∷ gs) h =
     elim (g.fork.id == id || descends id (forks_of gs) g.fork) as (λ b. (g.fork.id == id || descends id (forks_of gs) g.fork) ≡ b → AreGrown m (cond b (grown_without id gs) (g ∷ grown_without id gs))) [
@@ -59,7 +59,7 @@ parent_map-landed m n bound id fs (parent.Fork q) sound h is =
       | false ↦ λ apart. ap (λ k. fork_map k (forks_after_landing id fs) q) is ∙ fork_map-settled m bound id fs sound q h apart
     ] refl
 
-pub AreGrown-grown_settled : (m n : Map) (bound id : ℕ) (gs : List Grown) → AreForks bound (forks_of gs) → AreGrown m gs → (is_among id (forks_of gs) ≡ true → n ≡ fork_map m (forks_of gs) id) → AreGrown n (grown_settled id gs)
+pub AreGrown-grown_settled : (m n : Map) (bound id : ℕ) (gs : List ForkWithMap) → AreForks bound (forks_of gs) → AreGrown m gs → (is_among id (forks_of gs) ≡ true → n ≡ fork_map m (forks_of gs) id) → AreGrown n (grown_settled id gs)
 AreGrown-grown_settled m n bound id [] sound h is = tt
 AreGrown-grown_settled m n bound id (g ∷ gs) sound h is =
     let older : is_among id (forks_of gs) ≡ true → n ≡ fork_map m (forks_of gs) id = λ among.
@@ -78,11 +78,11 @@ AreGrown-grown_settled m n bound id (g ∷ gs) sound h is =
 
 -- ---- the maps in the table
 -- a fork has another number than each older one
-apart_from_older : (y : ℕ) (g : Grown) (gs : List Grown) → AreForks g.fork.id (forks_of gs) → is_among y (forks_of gs) ≡ true → (g.fork.id == y) ≡ false
+apart_from_older : (y : ℕ) (g : ForkWithMap) (gs : List ForkWithMap) → AreForks g.fork.id (forks_of gs) → is_among y (forks_of gs) ≡ true → (g.fork.id == y) ≡ false
 apart_from_older y g gs sound among =
     ne_eqb g.fork.id y (λ same. true≢false (sym among ∙ none_above g.fork.id y (forks_of gs) sound (subst (λ k. g.fork.id ≤ k) same (le_refl g.fork.id))))
 
-among-grown_without : (id y : ℕ) (gs : List Grown) → is_among y (forks_of (grown_without id gs)) ≡ true → is_among y (forks_of gs) ≡ true
+among-grown_without : (id y : ℕ) (gs : List ForkWithMap) → is_among y (forks_of (grown_without id gs)) ≡ true → is_among y (forks_of gs) ≡ true
 among-grown_without id y [] = λ h. h
 among-grown_without id y (g ∷ gs) =
     elim (g.fork.id == id || descends id (forks_of gs) g.fork) as (λ b. is_among y (forks_of (cond b (grown_without id gs) (g ∷ grown_without id gs))) ≡ true → is_among y (forks_of (g ∷ gs)) ≡ true) [
@@ -90,7 +90,7 @@ among-grown_without id y (g ∷ gs) =
       | false ↦ elim (g.fork.id == y) as (λ b. (b || is_among y (forks_of (grown_without id gs))) ≡ true → (b || is_among y (forks_of gs)) ≡ true) [ true ↦ λ h. refl | false ↦ λ h. among-grown_without id y gs h ]
     ]
 
-among-grown_settled : (id y : ℕ) (gs : List Grown) → is_among y (forks_of (grown_settled id gs)) ≡ true → is_among y (forks_of gs) ≡ true
+among-grown_settled : (id y : ℕ) (gs : List ForkWithMap) → is_among y (forks_of (grown_settled id gs)) ≡ true → is_among y (forks_of gs) ≡ true
 among-grown_settled id y [] = λ h. h
 among-grown_settled id y (g ∷ gs) =
     elim (descends id (forks_of gs) g.fork) as (λ b. is_among y (forks_of (cond b (record { fork = on_head id g.fork; map = g.map } ∷ grown_settled id gs) (grown_settled id gs))) ≡ true → is_among y (forks_of (g ∷ gs)) ≡ true) [
@@ -99,7 +99,7 @@ among-grown_settled id y (g ∷ gs) =
     ]
 
 -- each fork that stays when one is dropped has the map that it had
-pub map_of_fork-grown_without : (bound id y : ℕ) (gs : List Grown) → AreForks bound (forks_of gs) → is_among y (forks_of (grown_without id gs)) ≡ true → map_of_fork y (grown_without id gs) ≡ map_of_fork y gs
+pub map_of_fork-grown_without : (bound id y : ℕ) (gs : List ForkWithMap) → AreForks bound (forks_of gs) → is_among y (forks_of (grown_without id gs)) ≡ true → map_of_fork y (grown_without id gs) ≡ map_of_fork y gs
 map_of_fork-grown_without bound id y [] sound = λ h. refl
 map_of_fork-grown_without bound id y (g ∷ gs) sound =
     let older = map_of_fork-grown_without g.fork.id id y gs sound.2 in
@@ -109,11 +109,11 @@ map_of_fork-grown_without bound id y (g ∷ gs) sound =
     ]
 
 -- each fork that stays when one has landed has the map that it had
-pub map_of_fork-grown_settled : (bound id y : ℕ) (gs : List Grown) → AreForks bound (forks_of gs) → is_among y (forks_of (grown_settled id gs)) ≡ true → map_of_fork y (grown_settled id gs) ≡ map_of_fork y gs
+pub map_of_fork-grown_settled : (bound id y : ℕ) (gs : List ForkWithMap) → AreForks bound (forks_of gs) → is_among y (forks_of (grown_settled id gs)) ≡ true → map_of_fork y (grown_settled id gs) ≡ map_of_fork y gs
 map_of_fork-grown_settled bound id y [] sound = λ h. refl
 map_of_fork-grown_settled bound id y (g ∷ gs) sound =
     let older = map_of_fork-grown_settled g.fork.id id y gs sound.2 in
-    let there : Grown = record { fork = on_head id g.fork; map = g.map } in
+    let there : ForkWithMap = record { fork = on_head id g.fork; map = g.map } in
     elim (descends id (forks_of gs) g.fork) as (λ b. is_among y (forks_of (cond b (there ∷ grown_settled id gs) (grown_settled id gs))) ≡ true → map_of_fork y (cond b (there ∷ grown_settled id gs) (grown_settled id gs)) ≡ map_of_fork y (g ∷ gs)) [
       | true ↦ elim (g.fork.id == y) as (λ b. (b || is_among y (forks_of (grown_settled id gs))) ≡ true → cond b (Some g.map) (map_of_fork y (grown_settled id gs)) ≡ cond b (Some g.map) (map_of_fork y gs)) [ true ↦ λ h. refl | false ↦ λ h. older h ]
       | false ↦ λ h. older h ∙ ap (λ b. cond b (Some g.map) (map_of_fork y gs)) (sym (apart_from_older y g gs sound.2 (among-grown_settled id y gs h)))

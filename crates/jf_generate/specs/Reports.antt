@@ -26,21 +26,21 @@ abbrev pub last_reply : List (List ℕ) → List ℕ
 last_reply replies = slice_index_or (reverse replies) 0 []
 
 -- what is kept of replies: how many are refused, and the texts of the last two
-pub record Tallied : Type 0 where
+pub record Tally : Type 0 where
   pub refused : ℕ
   pub before : List ℕ
   pub last : List ℕ
 
 -- what is kept of these replies
-abbrev pub tally_of : List (List ℕ) → Tallied
+abbrev pub tally_of : List (List ℕ) → Tally
 tally_of replies = record { refused = refused_in replies; before = last_but_one replies; last = last_reply replies }
 
 -- what is kept after one reply more
-abbrev pub tally_more : Tallied → List ℕ → Tallied
+abbrev pub tally_more : Tally → List ℕ → Tally
 tally_more t text = record { refused = if is_refused text then t.refused + 1 else t.refused; before = t.last; last = text }
 
 -- the line `refused C`, with its line feed, and the last two replies
-abbrev pub tally_text : Tallied → List ℕ
+abbrev pub tally_text : Tally → List ℕ
 tally_text t = codes "refused " ++ (decimal t.refused ++ 10 ∷ (t.before ++ t.last))
 
 -- what the mode writes of these replies, which are texts that end in 0A

@@ -20,9 +20,9 @@ pub struct ReplyTally {
 }
 
 impl Model for ReplyTally {
-    ghost use Rattle.jf_generate.specs.Reports.{Tallied};
+    ghost use Rattle.jf_generate.specs.Reports.{Tally};
 
-    ghost Value = { Tallied };
+    ghost Value = { Tally };
 
     ghost view = { λ t. record { refused = t.refused; before = t.before; last = t.last } };
 }

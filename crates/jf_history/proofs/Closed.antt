@@ -24,10 +24,10 @@ use Rattle.jf_store.proofs.EventLaws.{entries_of-append, entries_of-mark, attemp
 use Rattle.jf_store.proofs.ClosingLaws.{starts_further}
 use Rattle.jf_answers.specs.Own.{Own, begun_session}
 use Rattle.jf_answers.specs.OwnLines.{pin_of}
-use Rattle.jf_answers.specs.Explains.{Timeline, IsAmong, Answered, AreAnswered, Looks, HasAnsweredChange, GivesEntry, GaveOneMore, IsSession, AreSessions, IsAttempt, next_line, own_after_replies, seen_after_replies, places_owned, places_in_reply, pins_of, timeline_of}
+use Rattle.jf_answers.specs.Explains.{Timeline, IsAmong, LineReply, AreAnswered, IsQuietReply, HasAnsweredChange, GivesEntry, GaveOneMore, IsSession, AreSessions, IsAttempt, next_line, own_after_replies, seen_after_replies, places_owned, places_in_reply, pins_of, timeline_of}
 use Rattle.jf_history.specs.Sessions.{Session, HaveMet, FollowsLine, IsTry, HasDoneNothing, seen_by, timeline}
 use Rattle.jf_history.specs.Runs.{EndsBy, IsAtRest}
-use Rattle.jf_history.specs.Serving.{Served, LosesReplies, IsServed, AreServed, FailedIn, scripts_of, replies_of, passes_of}
+use Rattle.jf_history.specs.Serving.{SessionOutcome, LosesReplies, IsServed, AreServed, FailedIn, scripts_of, replies_of, passes_of}
 use Rattle.jf_history.specs.declared.end.End.{End}
 use Rattle.jf_history.specs.declared.end.End.TheVariants as end
 use Rattle.jf_history.specs.Laws.{ClosedExplains, ClosedTries, ClosedBlames}
@@ -56,7 +56,7 @@ AreMet-weaker P Q f s (Mark pass e ∷ xs) h = (one_weaker P Q f s e h.0, AreMet
 have_seen : (pins : List ℕ) (start : Start) (events seen : List Event) → StartsWith events seen → HaveMet pins start events → HaveMet pins start seen
 have_seen pins start events seen begins h = AreMet-front (λ pin. IsAmong pins pin.1) start.state seen begins.0 (subst (HaveMet pins start) begins.1 h)
 
-lines_longer : (h : Timeline) (own : Own) (seen : ℕ) (ls more : List (List ℕ)) (rs : List Answered) → AreAnswered h own seen ls rs → AreAnswered h own seen (ls ++ more) rs
+lines_longer : (h : Timeline) (own : Own) (seen : ℕ) (ls more : List (List ℕ)) (rs : List LineReply) → AreAnswered h own seen ls rs → AreAnswered h own seen (ls ++ more) rs
 lines_longer h own seen ls more [] a = tt
 lines_longer h own seen [] more (r ∷ rs) a = absurd a
 lines_longer h own seen (l ∷ ls) more (r ∷ rs) a = (a.0, lines_longer h r.own r.number ls more rs a.1)
@@ -113,7 +113,7 @@ ends_rest end.Memory start mid last next h = at_rest mid last next h
 
 -- ---- what a session announced
 
-module _ (store : Store) (out_of_memory : List ℕ) (n : ℕ) (s : Served) (served : IsServed store out_of_memory n s) where
+module _ (store : Store) (out_of_memory : List ℕ) (n : ℕ) (s : SessionOutcome) (served : IsServed store out_of_memory n s) where
   mid_named : (version : ℕ) → HasElement served.mid.pass.place.announced version → IsAmong (filter_map pin_of s.script) version
   mid_named version there = elim (served.answered.announced version there) as (λ o. IsAmong (filter_map pin_of s.script) version) [
     | inl before ↦ absurd (some-ne-none version (sym before.1))
@@ -134,14 +134,14 @@ module _ (store : Store) (out_of_memory : List ℕ) (n : ℕ) (s : Served) (serv
   pub pass_named : (version : ℕ) → HasElement s.pass.place.announced version → IsAmong (filter_map pin_of s.script) version
   pass_named version there = last_named version (subst (λ (p : Pass). HasElement p.place.announced version) served.pass_is there)
 
-all_named : (store : Store) (out_of_memory : List ℕ) (n : ℕ) (ss : List Served) → AreServed store out_of_memory n ss → (p : Pass) → HasElement (passes_of ss) p → (version : ℕ) → HasElement p.place.announced version → IsAmong (pins_of (scripts_of ss)) version
+all_named : (store : Store) (out_of_memory : List ℕ) (n : ℕ) (ss : List SessionOutcome) → AreServed store out_of_memory n ss → (p : Pass) → HasElement (passes_of ss) p → (version : ℕ) → HasElement p.place.announced version → IsAmong (pins_of (scripts_of ss)) version
 all_named store out_of_memory n [] h p there version has = absurd (some-ne-none p (sym there.1))
 all_named store out_of_memory n (s ∷ ss) h p there version has = elim (has_cons s.pass (passes_of ss) p there) as (λ o. IsAmong (filter_map pin_of s.script ++ pins_of (scripts_of ss)) version) [
   | inl same ↦ among-front (filter_map pin_of s.script) (pins_of (scripts_of ss)) version (pass_named store out_of_memory n s h.0 version (subst (λ (q : Pass). HasElement q.place.announced version) (sym same) has))
   | inr later ↦ among-back (filter_map pin_of s.script) (pins_of (scripts_of ss)) version (all_named store out_of_memory (n + 1) ss h.1 p later version has)
 ]
 
-closed_met : (store : Store) (out_of_memory : List ℕ) (ss : List Served) (events : List Event) → AreServed store out_of_memory 0 ss → AreMet (WasAnnounced (passes_of ss)) store.start.state events → HaveMet (pins_of (scripts_of ss)) store.start events
+closed_met : (store : Store) (out_of_memory : List ℕ) (ss : List SessionOutcome) (events : List Event) → AreServed store out_of_memory 0 ss → AreMet (WasAnnounced (passes_of ss)) store.start.state events → HaveMet (pins_of (scripts_of ss)) store.start events
 closed_met store out_of_memory ss events served met =
     AreMet-weaker (WasAnnounced (passes_of ss)) (λ pin. IsAmong (pins_of (scripts_of ss)) pin.1)
     (λ pin x. all_named store out_of_memory 0 ss served x.0 x.1 pin.1 x.3) store.start.state events met
@@ -155,7 +155,7 @@ module _ (store : Store) (events : List Event) (out_of_memory pins : List ℕ) (
   longer : (seen : List Event) (begins : StartsWith events seen) → record { start = store.start.state; entries = entries_among seen ++ entries_among begins.0; pins = pins } ≡ h
   longer seen begins = ap (λ (es : List Entry). record { start = store.start.state; entries = es; pins = pins }) (sym (ap entries_among begins.1 ∙ entries_of-append seen begins.0))
 
-  module _ (n : ℕ) (s : Served) (served : IsServed store out_of_memory n s) (begins : StartsWith events s.pass.seen) (others : OthersAlone s.pass events) where
+  module _ (n : ℕ) (s : SessionOutcome) (served : IsServed store out_of_memory n s) (begins : StartsWith events s.pass.seen) (others : OthersAlone s.pass events) where
     last_begins : StartsWith events served.last.pass.seen
     last_begins = subst (λ (p : Pass). StartsWith events p.seen) served.pass_is begins
 
@@ -186,10 +186,10 @@ module _ (store : Store) (events : List Event) (out_of_memory pins : List ℕ) (
         (places_on served.last.pass events last_begins (subst (λ (p : Pass). OthersAlone p events) served.pass_is others))
         ∙ subst (λ (k : ℕ). places_owned k 0 (seen_by served.last.pass) ≡ places_owned k 0 (seen_by served.mid.pass)) numbered rests.places ∙ served.answered.places
 
-    abbrev Result : List Answered → Type 0
+    abbrev Result : List LineReply → Type 0
     Result rs = (places_owned n 0 (entries_among events) ≡ places_in_reply rs) ⊎ (IsAmong out_of_memory n × GaveOneMore h n s.script rs)
 
-    changes_only : (own : Own) (seen : ℕ) (line : List ℕ) (r : Answered) (e : Entry) → Looks h own seen line r ⊎ HasAnsweredChange h own seen line r → r.entry ≡ Some e → HasAnsweredChange h own seen line r
+    changes_only : (own : Own) (seen : ℕ) (line : List ℕ) (r : LineReply) (e : Entry) → IsQuietReply h own seen line r ⊎ HasAnsweredChange h own seen line r → r.entry ≡ Some e → HasAnsweredChange h own seen line r
     changes_only own seen line r e (inl l) given = absurd (let x : None ≡ Some e = sym l.none ∙ given in cc)
     changes_only own seen line r e (inr c) given = c
 
@@ -216,18 +216,18 @@ module _ (store : Store) (events : List Event) (out_of_memory pins : List ℕ) (
     pub session_of : IsSession h out_of_memory n s.script s.replies
     session_of = elim served.told as (λ o. IsSession h out_of_memory n s.script s.replies) [
       | inl same ↦ record {
-        replies = subst (λ (rs : List Answered). AreAnswered h (begun_session n) 0 s.script rs) (sym same) all_answered;
+        replies = subst (λ (rs : List LineReply). AreAnswered h (begun_session n) 0 s.script rs) (sym same) all_answered;
         entries = inl (all_places ∙ ap places_in_reply (sym same));
       }
       | inr lost ↦ record {
-        replies = subst (λ (rs : List Answered). AreAnswered h (begun_session n) 0 s.script rs) (sym lost.2.told_are) (AreAnswered-front h (begun_session n) 0 lost.2.count s.script served.had all_answered);
+        replies = subst (λ (rs : List LineReply). AreAnswered h (begun_session n) 0 s.script rs) (sym lost.2.told_are) (AreAnswered-front h (begun_session n) 0 lost.2.count s.script served.had all_answered);
         entries = subst Result (sym lost.2.told_are) (missing lost.1 lost.2);
       }
     ]
 
 -- ---- all sessions
 
-sessions_of : (store : Store) (events : List Event) (out_of_memory pins : List ℕ) (met : HaveMet pins store.start events) (n : ℕ) (ss : List Served) → AreServed store out_of_memory n ss
+sessions_of : (store : Store) (events : List Event) (out_of_memory pins : List ℕ) (met : HaveMet pins store.start events) (n : ℕ) (ss : List SessionOutcome) → AreServed store out_of_memory n ss
     → ((p : Pass) → HasElement (passes_of ss) p → StartsWith events p.seen) → ((p : Pass) → HasElement (passes_of ss) p → OthersAlone p events) → AreSessions (timeline store.start pins events) out_of_memory n (scripts_of ss) (replies_of ss)
 sessions_of store events out_of_memory pins met n [] h seen others = tt
 sessions_of store events out_of_memory pins met n (s ∷ ss) h seen others = (
@@ -244,7 +244,7 @@ pub closed_explains : ClosedExplains
 closed_explains store ss out_of_memory entries engine passes closed served =
     let met = closed_met store out_of_memory ss closed.events served closed.met in
     let same = sym closed.entries_are in
-    let many : store.start.passes ≡ length (scripts_of ss) = passes ∙ sym (length-map ss (λ (s : Served). s.script)) in
+    let many : store.start.passes ≡ length (scripts_of ss) = passes ∙ sym (length-map ss (λ (s : SessionOutcome). s.script)) in
     record {
       history = subst (IsHistory store.start.state) same closed.history.history;
       owners = subst (λ (es : List Entry). AllByRecursion (λ e. owner_of e < length (scripts_of ss)) es) same
@@ -255,13 +255,13 @@ closed_explains store ss out_of_memory entries engine passes closed served =
 
 -- ---- where the disk failed
 
-served_at : (store : Store) (out_of_memory : List ℕ) (n : ℕ) (xs : List Served) (s : Served) (ys : List Served) → AreServed store out_of_memory n (xs ++ s ∷ ys) → IsServed store out_of_memory (n + length xs) s
+served_at : (store : Store) (out_of_memory : List ℕ) (n : ℕ) (xs : List SessionOutcome) (s : SessionOutcome) (ys : List SessionOutcome) → AreServed store out_of_memory n (xs ++ s ∷ ys) → IsServed store out_of_memory (n + length xs) s
 served_at store out_of_memory n [] s ys h = let e : n ≡ n + 0 = omega arith in subst (λ (k : ℕ). IsServed store out_of_memory k s) e h.0
 served_at store out_of_memory n (x ∷ xs) s ys h =
     let far : n + 1 + length xs ≡ n + length (x ∷ xs) = omega arith in
     subst (λ (k : ℕ). IsServed store out_of_memory k s) far (served_at store out_of_memory (n + 1) xs s ys h.1)
 
-pub pass_there : (xs : List Served) (s : Served) (ys : List Served) → HasElement (passes_of (xs ++ s ∷ ys)) s.pass
+pub pass_there : (xs : List SessionOutcome) (s : SessionOutcome) (ys : List SessionOutcome) → HasElement (passes_of (xs ++ s ∷ ys)) s.pass
 pass_there [] s ys = (0, refl)
 pass_there (x ∷ xs) s ys = let r = pass_there xs s ys in (suc r.0, r.1)
 
@@ -271,7 +271,7 @@ none_later s (Done x ∷ xs) pass e rest m none = none_later s xs pass e rest m 
 none_later s (Mark p x ∷ xs) pass e rest m none = absurd (cc)
 
 module _ (store : Store) (events : List Event) (out_of_memory pins : List ℕ) (entries : List Entry) (entries_are : entries ≡ entries_among events) (met : HaveMet pins store.start events) (marked : MarkIsLast (state_after_events store.start events) events)
-    (n : ℕ) (s : Served) (served : IsServed store out_of_memory n s) (begins : StartsWith events s.pass.seen) (fault : s.how ≡ end.DiskFault) where
+    (n : ℕ) (s : SessionOutcome) (served : IsServed store out_of_memory n s) (begins : StartsWith events s.pass.seen) (fault : s.how ≡ end.DiskFault) where
   abbrev Tried : Type 0
   Tried = (e : Entry) × (attempt_of events ≡ Some e) × IsAttempt (record { start = store.start.state; entries = entries; pins = pins }) n s.script s.replies e
 
@@ -355,7 +355,7 @@ fault_of end.DiskFault start mid last next pass e ends none number there = refl
 fault_of end.Broken start mid last next pass e ends none number there = absurd (idle_unmarked mid last ends.0 pass e ends.2.idle none number there)
 fault_of end.Memory start mid last next pass e ends none number there = absurd (rest_unmarked mid last next pass e ends none number there)
 
-served_fault : (store : Store) (events : List Event) (out_of_memory : List ℕ) (n : ℕ) (s : Served) (e : Entry) → IsServed store out_of_memory n s → StartsWith events s.pass.seen → OthersAlone s.pass events → HasElement events (Mark n e) → s.how ≡ end.DiskFault
+served_fault : (store : Store) (events : List Event) (out_of_memory : List ℕ) (n : ℕ) (s : SessionOutcome) (e : Entry) → IsServed store out_of_memory n s → StartsWith events s.pass.seen → OthersAlone s.pass events → HasElement events (Mark n e) → s.how ≡ end.DiskFault
 served_fault store events out_of_memory n s e served begins others there =
     let numbered : served.mid.pass.number ≡ n = ap (λ (p : Pass). p.number) served.answered.same in
     let front = subst (λ (p : Pass). StartsWith events p.seen) served.pass_is begins in
@@ -376,21 +376,21 @@ named_at_most bound (y ∷ xs) x h there = elim (has_cons y xs x there) as (λ o
   | inr later ↦ named_at_most bound xs x h.1 later
 ]
 
-record Around (ss : List Served) (n : ℕ) : Type 0 where
-  before : List Served
-  here : Served
-  after : List Served
+record Around (ss : List SessionOutcome) (n : ℕ) : Type 0 where
+  before : List SessionOutcome
+  here : SessionOutcome
+  after : List SessionOutcome
   split : ss ≡ before ++ here ∷ after
   many : length before ≡ n
 
-around : (ss : List Served) (n : ℕ) → n < length ss → Around ss n
+around : (ss : List SessionOutcome) (n : ℕ) → n < length ss → Around ss n
 around [] n lt = absurd (omega arith)
 around (s ∷ ss) zero lt = record { before = []; here = s; after = ss; split = refl; many = refl }
 around (s ∷ ss) (suc n) lt =
     let r = around ss n (omega arith) in
     record { before = s ∷ r.before; here = r.here; after = r.after; split = ap (λ xs. s ∷ xs) r.split; many = (let m = r.many in omega arith) }
 
-module _ (store : Store) (ss : List Served) (out_of_memory : List ℕ) (entries : List Entry) (engine : Engine) (e : Entry) (closed : IsClosed store.start (passes_of ss) entries engine) (served : AreServed store out_of_memory 0 ss)
+module _ (store : Store) (ss : List SessionOutcome) (out_of_memory : List ℕ) (entries : List Entry) (engine : Engine) (e : Entry) (closed : IsClosed store.start (passes_of ss) entries engine) (served : AreServed store out_of_memory 0 ss)
     (is : attempt_of closed.events ≡ Some e) (pass : ℕ) (there : HasElement closed.events (Mark pass e)) (a : Around ss pass) where
   one_served : IsServed store out_of_memory (length a.before) a.here
   one_served =
@@ -398,7 +398,7 @@ module _ (store : Store) (ss : List Served) (out_of_memory : List ℕ) (entries 
       subst (λ (k : ℕ). IsServed store out_of_memory k a.here) at (served_at store out_of_memory 0 a.before a.here a.after (subst (AreServed store out_of_memory 0) a.split served))
 
   here_passes : HasElement (passes_of ss) a.here.pass
-  here_passes = subst (λ (xs : List Served). HasElement (passes_of xs) a.here.pass) (sym a.split) (pass_there a.before a.here a.after)
+  here_passes = subst (λ (xs : List SessionOutcome). HasElement (passes_of xs) a.here.pass) (sym a.split) (pass_there a.before a.here a.after)
 
   here_fault : a.here.how ≡ end.DiskFault
   here_fault = served_fault store closed.events out_of_memory (length a.before) a.here e one_served (closed.seen a.here.pass here_passes) (closed.others a.here.pass here_passes)

@@ -12,7 +12,7 @@ use Rattle.jf_store.specs.declared.event.Event.TheVariants.{Done, Mark}
 use Rattle.jf_store.specs.Starts.{Start}
 use Rattle.jf_store.specs.Floors.{AreMet}
 use Rattle.jf_answers.specs.Own.{Own}
-use Rattle.jf_answers.specs.Explains.{Timeline, Answered, IsAnswered, AreAnswered, own_after_replies, seen_after_replies, places_in_reply, places_owned}
+use Rattle.jf_answers.specs.Explains.{Timeline, LineReply, IsAnswered, AreAnswered, own_after_replies, seen_after_replies, places_in_reply, places_owned}
 use Rattle.jf_history.specs.Sessions.{HeldFloor, entry_place}
 use Rattle.jf_history.specs.Runs.{AreHeld}
 
@@ -36,29 +36,29 @@ places_owned-within n k bound (e ∷ es) le =
     ]
 
 -- ---- one line more
-pub AreAnswered-push : (h : Timeline) (own : Own) (seen : ℕ) (ls : List (List ℕ)) (rs : List Answered) (line : List ℕ) (r : Answered) → length rs ≡ length ls → AreAnswered h own seen ls rs
+pub AreAnswered-push : (h : Timeline) (own : Own) (seen : ℕ) (ls : List (List ℕ)) (rs : List LineReply) (line : List ℕ) (r : LineReply) → length rs ≡ length ls → AreAnswered h own seen ls rs
     → IsAnswered h (own_after_replies own rs) (seen_after_replies seen rs) line r → AreAnswered h own seen (ls ++ line ∷ []) (rs ++ r ∷ [])
 AreAnswered-push h own seen [] [] line r same a one = (one, tt)
 AreAnswered-push h own seen (l ∷ ls) [] line r same a one = absurd (omega arith)
 AreAnswered-push h own seen [] (x ∷ rs) line r same a one = absurd a
 AreAnswered-push h own seen (l ∷ ls) (x ∷ rs) line r same a one = (a.0, AreAnswered-push h x.own x.number ls rs line r (omega arith) a.1 one)
 
-pub places_told-push : (rs : List Answered) (r : Answered) → places_in_reply (rs ++ r ∷ []) ≡ places_in_reply rs ++ entry_place r
+pub places_told-push : (rs : List LineReply) (r : LineReply) → places_in_reply (rs ++ r ∷ []) ≡ places_in_reply rs ++ entry_place r
 places_told-push [] r = refl
 places_told-push (x ∷ rs) r = elim (is_some x.entry) as (λ b. cond b (x.number ∷ places_in_reply (rs ++ r ∷ [])) (places_in_reply (rs ++ r ∷ [])) ≡ cond b (x.number ∷ places_in_reply rs) (places_in_reply rs) ++ entry_place r) [
   | true ↦ ap (λ t. x.number ∷ t) (places_told-push rs r)
   | false ↦ places_told-push rs r
 ]
 
-pub own_after-push : (own : Own) (rs : List Answered) (r : Answered) → own_after_replies own (rs ++ r ∷ []) ≡ r.own
+pub own_after-push : (own : Own) (rs : List LineReply) (r : LineReply) → own_after_replies own (rs ++ r ∷ []) ≡ r.own
 own_after-push own [] r = refl
 own_after-push own (x ∷ rs) r = own_after-push x.own rs r
 
-pub seen_after-push : (seen : ℕ) (rs : List Answered) (r : Answered) → seen_after_replies seen (rs ++ r ∷ []) ≡ r.number
+pub seen_after-push : (seen : ℕ) (rs : List LineReply) (r : LineReply) → seen_after_replies seen (rs ++ r ∷ []) ≡ r.number
 seen_after-push seen [] r = refl
 seen_after-push seen (x ∷ rs) r = seen_after-push x.number rs r
 
-pub AreHeld-push : (start : Start) (es : List Entry) (own : Own) (rs : List Answered) (r : Answered) → AreHeld start es own rs
+pub AreHeld-push : (start : Start) (es : List Entry) (own : Own) (rs : List LineReply) (r : LineReply) → AreHeld start es own rs
     → IfSome r.entry (HeldFloor start (own_after_replies own rs) (replay start.state (take (r.number - 1) es))) → AreHeld start es own (rs ++ r ∷ [])
 AreHeld-push start es own [] r h one = (one, tt)
 AreHeld-push start es own (x ∷ rs) r h one = (h.0, AreHeld-push start es x.own rs r h.1 one)
@@ -67,7 +67,7 @@ held_later : (start : Start) (es more : List Entry) (own : Own) (n : ℕ) (o : O
 held_later start es more own n o le h = subst (λ (xs : List Entry). IfSome o (HeldFloor start own (replay start.state xs))) (sym (take-append-le n es more le)) h
 
 -- they stay held where entries follow
-pub AreHeld-later : (start : Start) (es more : List Entry) (own : Own) (rs : List Answered) → within (length es) (places_in_reply rs) → AreHeld start es own rs → AreHeld start (es ++ more) own rs
+pub AreHeld-later : (start : Start) (es more : List Entry) (own : Own) (rs : List LineReply) → within (length es) (places_in_reply rs) → AreHeld start es own rs → AreHeld start (es ++ more) own rs
 AreHeld-later start es more own [] w h = tt
 AreHeld-later start es more own (r ∷ rs) w h = elim r.entry as (λ (o : Option Entry). within (length es) (cond (is_some o) (r.number ∷ places_in_reply rs) (places_in_reply rs)) → IfSome o (HeldFloor start own (replay start.state (take (r.number - 1) es)))
     → IfSome o (HeldFloor start own (replay start.state (take (r.number - 1) (es ++ more)))) × AreHeld start (es ++ more) r.own rs) [
@@ -76,18 +76,18 @@ AreHeld-later start es more own (r ∷ rs) w h = elim r.entry as (λ (o : Option
     ] w h.0
 
 -- ---- the first lines
-pub AreAnswered-take : (h : Timeline) (own : Own) (seen n : ℕ) (ls : List (List ℕ)) (rs : List Answered) → AreAnswered h own seen ls rs → AreAnswered h own seen (take n ls) (take n rs)
+pub AreAnswered-take : (h : Timeline) (own : Own) (seen n : ℕ) (ls : List (List ℕ)) (rs : List LineReply) → AreAnswered h own seen ls rs → AreAnswered h own seen (take n ls) (take n rs)
 AreAnswered-take h own seen zero ls rs a = tt
 AreAnswered-take h own seen (suc n) ls [] a = tt
 AreAnswered-take h own seen (suc n) [] (r ∷ rs) a = absurd a
 AreAnswered-take h own seen (suc n) (line ∷ ls) (r ∷ rs) a = (a.0, AreAnswered-take h r.own r.number n ls rs a.1)
 
-pub AreHeld-take : (start : Start) (es : List Entry) (own : Own) (n : ℕ) (rs : List Answered) → AreHeld start es own rs → AreHeld start es own (take n rs)
+pub AreHeld-take : (start : Start) (es : List Entry) (own : Own) (n : ℕ) (rs : List LineReply) → AreHeld start es own rs → AreHeld start es own (take n rs)
 AreHeld-take start es own zero rs h = tt
 AreHeld-take start es own (suc n) [] h = tt
 AreHeld-take start es own (suc n) (r ∷ rs) h = (h.0, AreHeld-take start es r.own n rs h.1)
 
-told_none : (rs : List Answered) → AllByRecursion (λ r. r.entry ≡ None) rs → places_in_reply rs ≡ []
+told_none : (rs : List LineReply) → AllByRecursion (λ r. r.entry ≡ None) rs → places_in_reply rs ≡ []
 told_none [] h = refl
 told_none (r ∷ rs) h = ap (λ (o : Option Entry). cond (is_some o) (r.number ∷ places_in_reply rs) (places_in_reply rs)) h.0 ∙ told_none rs h.1
 
@@ -96,13 +96,13 @@ told_more true n ns ms ks e = ap (λ t. n ∷ t) e
 told_more false n ns ms ks e = e
 
 -- lines that give no entry tell no place
-pub places_told-take : (n : ℕ) (rs : List Answered) → AllByRecursion (λ r. r.entry ≡ None) (drop n rs) → places_in_reply (take n rs) ≡ places_in_reply rs
+pub places_told-take : (n : ℕ) (rs : List LineReply) → AllByRecursion (λ r. r.entry ≡ None) (drop n rs) → places_in_reply (take n rs) ≡ places_in_reply rs
 places_told-take zero rs h = sym (told_none rs h)
 places_told-take (suc n) [] h = refl
 places_told-take (suc n) (r ∷ rs) h = ap (λ ns. cond (is_some r.entry) (r.number ∷ ns) ns) (places_told-take n rs h)
 
 -- the first replies to the same lines
-pub AreAnswered-front : (h : Timeline) (own : Own) (seen n : ℕ) (ls : List (List ℕ)) (rs : List Answered) → AreAnswered h own seen ls rs → AreAnswered h own seen ls (take n rs)
+pub AreAnswered-front : (h : Timeline) (own : Own) (seen n : ℕ) (ls : List (List ℕ)) (rs : List LineReply) → AreAnswered h own seen ls rs → AreAnswered h own seen ls (take n rs)
 AreAnswered-front h own seen zero ls rs a = tt
 AreAnswered-front h own seen (suc n) ls [] a = tt
 AreAnswered-front h own seen (suc n) [] (r ∷ rs) a = absurd a
@@ -110,14 +110,14 @@ AreAnswered-front h own seen (suc n) (line ∷ ls) (r ∷ rs) a = (a.0, AreAnswe
 
 -- ---- the line at a place
 -- a reply with its line, over what the replies before it left
-pub record AnswersAt (h : Timeline) (own : Own) (seen n : ℕ) (ls : List (List ℕ)) (rs : List Answered) : Type 0 where
+pub record AnswersAt (h : Timeline) (own : Own) (seen n : ℕ) (ls : List (List ℕ)) (rs : List LineReply) : Type 0 where
   pub line : List ℕ
-  pub reply : Answered
+  pub reply : LineReply
   pub line_at : slice_get ls n ≡ Some line
   pub answers : IsAnswered h (own_after_replies own (take n rs)) (seen_after_replies seen (take n rs)) line reply
   pub places : AllByRecursion (λ r. r.entry ≡ None) (drop (n + 1) rs) → places_in_reply rs ≡ places_in_reply (take n rs) ++ entry_place reply
 
-pub answers-at : (h : Timeline) (own : Own) (seen n : ℕ) (ls : List (List ℕ)) (rs : List Answered) → AreAnswered h own seen ls rs → n < length rs → AnswersAt h own seen n ls rs
+pub answers-at : (h : Timeline) (own : Own) (seen n : ℕ) (ls : List (List ℕ)) (rs : List LineReply) → AreAnswered h own seen ls rs → n < length rs → AnswersAt h own seen n ls rs
 answers-at h own seen n ls [] a lt = absurd (omega arith)
 answers-at h own seen n [] (r ∷ rs) a lt = absurd a
 answers-at h own seen zero (line ∷ ls) (r ∷ rs) a lt = record {

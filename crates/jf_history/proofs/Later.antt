@@ -9,7 +9,7 @@ use Rattle.jf_model.specs.declared.entries.Entry.TheVariants as entry
 use Rattle.jf_answers.specs.Own.{Own}
 use Rattle.jf_answers.specs.Answers.{answer}
 use Rattle.jf_answers.specs.Runs.{answer_text}
-use Rattle.jf_answers.specs.Explains.{Timeline, Answered, IsAnswered, AreAnswered, Looks, HasAnsweredChange, GivesEntry, HasFloor, answer_with, floor_in, state_after}
+use Rattle.jf_answers.specs.Explains.{Timeline, LineReply, IsAnswered, AreAnswered, IsQuietReply, HasAnsweredChange, GivesEntry, HasFloor, answer_with, floor_in, state_after}
 use Rattle.jf_history.specs.Laws.{AnswersStay}
 
 get_front : (xs ys : List Entry) (i : ℕ) (x : Entry) → slice_get xs i ≡ Some x → slice_get (xs ++ ys) i ≡ Some x
@@ -37,7 +37,7 @@ module _ (s : State) (pins : List ℕ) (es more : List Entry) where
   gives_later : (t : State) (own : Own) (line : List ℕ) (e : Entry) → GivesEntry short t own line e → GivesEntry long t own line e
   gives_later t own line e g = record { same = g.same; floor = floor_later t own e g.floor }
 
-  looks_later : (own : Own) (seen : ℕ) (line : List ℕ) (r : Answered) → r.number ≤ length es → Looks short own seen line r → Looks long own seen line r
+  looks_later : (own : Own) (seen : ℕ) (line : List ℕ) (r : LineReply) → r.number ≤ length es → IsQuietReply short own seen line r → IsQuietReply long own seen line r
   looks_later own seen line r within l =
       let e = same_state r.number within in
       record {
@@ -48,7 +48,7 @@ module _ (s : State) (pins : List ℕ) (es more : List Entry) where
         by_itself = l.by_itself;
       }
 
-  pub changes_later : (own : Own) (seen : ℕ) (line : List ℕ) (r : Answered) → r.number ≤ length es → HasAnsweredChange short own seen line r → HasAnsweredChange long own seen line r
+  pub changes_later : (own : Own) (seen : ℕ) (line : List ℕ) (r : LineReply) → r.number ≤ length es → HasAnsweredChange short own seen line r → HasAnsweredChange long own seen line r
   changes_later own seen line r within c =
       let e = same_state (r.number - 1) (omega arith) in
       record {
@@ -62,14 +62,14 @@ module _ (s : State) (pins : List ℕ) (es more : List Entry) where
         own_after = subst (λ (t : State). r.own ≡ (answer_with (floor_in c.event) t own line).own) e c.own_after;
       }
 
-  answered_later : (own : Own) (seen : ℕ) (line : List ℕ) (r : Answered) → IsAnswered short own seen line r → IsAnswered long own seen line r
+  answered_later : (own : Own) (seen : ℕ) (line : List ℕ) (r : LineReply) → IsAnswered short own seen line r → IsAnswered long own seen line r
   answered_later own seen line r a = record {
     rises = a.rises;
     within = (let w = a.within in let l = length-append es more in omega arith);
     answered = elim a.answered [ inl l ↦ inl (looks_later own seen line r a.within l) | inr c ↦ inr (changes_later own seen line r a.within c) ];
   }
 
-  pub stay : (own : Own) (seen : ℕ) (ls : List (List ℕ)) (rs : List Answered) → AreAnswered short own seen ls rs → AreAnswered long own seen ls rs
+  pub stay : (own : Own) (seen : ℕ) (ls : List (List ℕ)) (rs : List LineReply) → AreAnswered short own seen ls rs → AreAnswered long own seen ls rs
   stay own seen ls [] h = tt
   stay own seen [] (r ∷ rs) h = absurd h
   stay own seen (line ∷ ls) (r ∷ rs) h = (answered_later own seen line r h.0, stay r.own r.number ls rs h.1)

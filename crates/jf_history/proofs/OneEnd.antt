@@ -7,7 +7,7 @@ use Rattle.jf_store.specs.Events.{entries_among, attempt_of}
 use Rattle.jf_store.specs.Ledgers.{AreEvents}
 use Rattle.jf_store.specs.Passes.{Store, Pass, new_pass}
 use Rattle.jf_store.proofs.EventLaws.{entries_of-mark, attempt_of-none}
-use Rattle.jf_answers.specs.Explains.{Answered}
+use Rattle.jf_answers.specs.Explains.{LineReply}
 use Rattle.jf_history.specs.Sessions.{Session, seen_by, IsTry}
 use Rattle.jf_history.specs.Runs.{HasAnswered, IsAtRest}
 use Rattle.jf_history.specs.Alone.{AnswersAlone}
@@ -17,7 +17,7 @@ use Rattle.jf_history.specs.Laws.{OneEndIsAlone}
 use Rattle.jf_history.proofs.OnePass.{alone, one_pass_adds}
 use Rattle.jf_history.proofs.OneSession.{AreEvents-before, one_session_is_alone, one_session_tries, one_session_is_never_broken}
 
-module _ (store : Store) (mid last : Session) (ls : List (List ℕ)) (rs : List Answered) (one : store.start.passes ≡ 1) (are : AreEvents store.start last.pass.seen) (a : HasAnswered store.start (new_pass store 0) mid ls rs) where
+module _ (store : Store) (mid last : Session) (ls : List (List ℕ)) (rs : List LineReply) (one : store.start.passes ≡ 1) (are : AreEvents store.start last.pass.seen) (a : HasAnswered store.start (new_pass store 0) mid ls rs) where
   below : mid.pass.number < store.start.passes
   below = let number : mid.pass.number ≡ 0 = ap (λ (p : Pass). p.number) a.same in omega arith
 

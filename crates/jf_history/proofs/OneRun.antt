@@ -13,7 +13,7 @@ use Rattle.jf_store.proofs.EventLaws.{attempt_of-none}
 use Rattle.jf_answers.specs.Own.{Own, begun_session}
 use Rattle.jf_answers.specs.Answers.{answer}
 use Rattle.jf_answers.specs.Runs.{answers_from, answers, answer_text, texts_of, text_of}
-use Rattle.jf_answers.specs.Explains.{Answered, text_in}
+use Rattle.jf_answers.specs.Explains.{LineReply, text_in}
 use Rattle.jf_history.specs.Sessions.{Session, seen_by, IsTry}
 use Rattle.jf_history.specs.Runs.{HasAnswered, ReadsBy, HasReadInput, IsCut, IsAtRest, HasRunOver}
 use Rattle.jf_history.specs.Alone.{IsCutAnswer, WritesAlone, TriesAlone, RanAlone}
@@ -61,7 +61,7 @@ AreFirst-take taken left ls n f = record {
 }
 
 -- lines after which no entry came gave all entries
-pub agrees_first : (store : Store) (mid : Session) (ls : List (List ℕ)) (rs : List Answered) → store.start.passes ≡ 1 → store.start.state.count ≡ 0 → AreEvents store.start mid.pass.seen → HasAnswered store.start (new_pass store 0) mid ls rs
+pub agrees_first : (store : Store) (mid : Session) (ls : List (List ℕ)) (rs : List LineReply) → store.start.passes ≡ 1 → store.start.state.count ≡ 0 → AreEvents store.start mid.pass.seen → HasAnswered store.start (new_pass store 0) mid ls rs
     → (n : ℕ) → AllByRecursion (λ r. r.entry ≡ None) (drop n rs) → Agrees store.start.state (begun_session 0) (take n ls) (take n rs) (seen_by mid.pass)
 agrees_first store mid ls rs one none are a n quiet =
     agrees-from store.start mid.pass.seen (take n ls) (take n rs) one none are
@@ -70,7 +70,7 @@ agrees_first store mid ls rs one none are a n quiet =
 
 -- ---- what was written
 
-module _ (store : Store) (mid : Session) (ls : List (List ℕ)) (rs : List Answered) (one : store.start.passes ≡ 1) (none : store.start.state.count ≡ 0) (are : AreEvents store.start mid.pass.seen)
+module _ (store : Store) (mid : Session) (ls : List (List ℕ)) (rs : List LineReply) (one : store.start.passes ≡ 1) (none : store.start.state.count ≡ 0) (are : AreEvents store.start mid.pass.seen)
     (a : HasAnswered store.start (new_pass store 0) mid ls rs) (text : List ℕ) (c : IsCut rs text) where
   -- the lines up to the cut gave all entries
   agrees_cut : Agrees store.start.state (begun_session 0) (take c.count ls) (take c.count rs) (seen_by mid.pass)
@@ -80,9 +80,9 @@ module _ (store : Store) (mid : Session) (ls : List (List ℕ)) (rs : List Answe
   cut_answer =
       let g = agrees_cut in
       let many : length (take c.count ls) ≡ c.count = (let within = c.within in let same = a.all in omega (arith, length-take c.count ls)) in
-      let fewer : texts_of (answers store.start.state (take (length (take c.count ls) - 1) (take c.count ls))) ≡ map (λ (r : Answered). r.text) (take (c.count - 1) rs) =
+      let fewer : texts_of (answers store.start.state (take (length (take c.count ls) - 1) (take c.count ls))) ≡ map (λ (r : LineReply). r.text) (take (c.count - 1) rs) =
       texts_of-take store.start.state (begun_session 0) (length (take c.count ls) - 1) (take c.count ls) ∙ ap (λ n. take (n - 1) (texts_of (answers store.start.state (take c.count ls)))) many
-      ∙ ap (take (c.count - 1)) (sym g.texts) ∙ take-map (λ (r : Answered). r.text) (c.count - 1) (take c.count rs) ∙ ap (map (λ (r : Answered). r.text)) (take-take (c.count - 1) c.count rs (omega arith)) in
+      ∙ ap (take (c.count - 1)) (sym g.texts) ∙ take-map (λ (r : LineReply). r.text) (c.count - 1) (take c.count rs) ∙ ap (map (λ (r : LineReply). r.text)) (take-take (c.count - 1) c.count rs (omega arith)) in
       record {
         missing = c.missing;
         front = ap concat (sym g.texts) ∙ c.front;
@@ -97,7 +97,7 @@ module _ (store : Store) (new : Pass) (rest rest' text text' : Option (List ℕ)
   seen_last e r = subst (λ (p : Pass). AreEvents store.start p.seen) r.pass_is are
 
   -- a run whose output follows from the replies to all lines done
-  ran_texts : (e : End) (r : HasRunOver e store.start (new_pass store 0) new rest rest' text text') → (map (λ (a : Answered). a.text) r.replies ≡ texts_of (answers store.start.state r.done) → WritesAlone e store.start.state r.done r.writes.text)
+  ran_texts : (e : End) (r : HasRunOver e store.start (new_pass store 0) new rest rest' text text') → (map (λ (a : LineReply). a.text) r.replies ≡ texts_of (answers store.start.state r.done) → WritesAlone e store.start.state r.done r.writes.text)
       → RanAlone e store.start.state (seen_by new) (attempt_of new.seen) rest rest' text text'
   ran_texts e r writes =
       let g = one_end_is_alone store e r.mid r.last r.done r.replies r.next one none (seen_last e r) r.answered r.ends in
@@ -123,9 +123,9 @@ module _ (store : Store) (new : Pass) (rest rest' text text' : Option (List ℕ)
   ran_but_last r = ran_texts end.Memory r (λ texts. elim r.writes.by [
     | inl whole ↦ inl (whole ∙ ap concat texts)
     | inr less ↦
-        let fewer : texts_of (answers store.start.state (take (length r.done - 1) r.done)) ≡ map (λ (a : Answered). a.text) (take (length r.replies - 1) r.replies) =
+        let fewer : texts_of (answers store.start.state (take (length r.done - 1) r.done)) ≡ map (λ (a : LineReply). a.text) (take (length r.replies - 1) r.replies) =
         texts_of-take store.start.state (begun_session 0) (length r.done - 1) r.done ∙ ap (λ n. take (n - 1) (texts_of (answers store.start.state r.done))) (sym r.answered.all)
-        ∙ ap (take (length r.replies - 1)) (sym texts) ∙ take-map (λ (a : Answered). a.text) (length r.replies - 1) r.replies in
+        ∙ ap (take (length r.replies - 1)) (sym texts) ∙ take-map (λ (a : LineReply). a.text) (length r.replies - 1) r.replies in
         inr (less ∙ sym (ap concat fewer))
   ])
 

@@ -14,11 +14,11 @@ use Rattle.jf_store.specs.Closing.{IsClosed}
 use Rattle.jf_store.proofs.EventLaws.{attempt_of-none}
 use Rattle.jf_answers.specs.Own.{begun_session}
 use Rattle.jf_answers.specs.Runs.{answers, texts_of, text_of}
-use Rattle.jf_answers.specs.Explains.{Answered, text_in}
+use Rattle.jf_answers.specs.Explains.{LineReply, text_in}
 use Rattle.jf_history.specs.Sessions.{seen_by}
 use Rattle.jf_history.specs.Runs.{EndsBy, IsAtRest}
 use Rattle.jf_history.specs.Alone.{WritesAlone, TriesAlone, ServedAlone}
-use Rattle.jf_history.specs.Serving.{Served, IsServed, LosesReplies}
+use Rattle.jf_history.specs.Serving.{SessionOutcome, IsServed, LosesReplies}
 use Rattle.jf_history.specs.declared.end.End.{End}
 use Rattle.jf_history.specs.declared.end.End.TheVariants as end
 use Rattle.jf_history.specs.Laws.{OneServedIsAlone}
@@ -26,7 +26,7 @@ use Rattle.jf_history.proofs.OnePass.{one_pass_closes}
 use Rattle.jf_history.proofs.OneEnd.{rest_seen, one_end_is_alone}
 use Rattle.jf_history.proofs.OneRun.{agrees_first, texts_of-take, take-take}
 
-module _ (store : Store) (s : Served) (out_of_memory : List ℕ) (entries : List Entry) (engine : Engine) (one : store.start.passes ≡ 1) (none : store.start.state.count ≡ 0) (number : s.pass.number ≡ 0)
+module _ (store : Store) (s : SessionOutcome) (out_of_memory : List ℕ) (entries : List Entry) (engine : Engine) (one : store.start.passes ≡ 1) (none : store.start.state.count ≡ 0) (number : s.pass.number ≡ 0)
     (closed : IsClosed store.start (s.pass ∷ []) entries engine) (r : IsServed store out_of_memory 0 s) where
   -- the store's history is what the session has seen in the end
   last_is : closed.events ≡ r.last.pass.seen
@@ -69,9 +69,9 @@ module _ (store : Store) (s : Served) (out_of_memory : List ℕ) (entries : List
       let g = agrees_first store r.mid r.done r.had one none (subst (λ (xs : List Event). AreEvents store.start xs) same are) r.answered n lost.quiet in
       let here : entries ≡ seen_by r.mid.pass = entries_same ∙ ap entries_among same in
       let many : length (take n r.done) - 1 ≡ lost.count = (let within = lost.within in let all = r.answered.all in omega (arith, length-take n r.done)) in
-      let fewer : texts_of (answers start (take (length (take n r.done) - 1) (take n r.done))) ≡ map (λ (a : Answered). a.text) (take lost.count r.had) =
+      let fewer : texts_of (answers start (take (length (take n r.done) - 1) (take n r.done))) ≡ map (λ (a : LineReply). a.text) (take lost.count r.had) =
       texts_of-take start (begun_session 0) (length (take n r.done) - 1) (take n r.done) ∙ ap (λ k. take k (texts_of (answers start (take n r.done)))) many
-      ∙ ap (take lost.count) (sym g.texts) ∙ take-map (λ (a : Answered). a.text) lost.count (take n r.had) ∙ ap (map (λ (a : Answered). a.text)) (take-take lost.count n r.had (omega arith)) in
+      ∙ ap (take lost.count) (sym g.texts) ∙ take-map (λ (a : LineReply). a.text) lost.count (take n r.had) ∙ ap (map (λ (a : LineReply). a.text)) (take-take lost.count n r.had (omega arith)) in
       record {
         done = take n r.done;
         more = drop n r.done ++ r.rest;

@@ -20,7 +20,7 @@ use Rattle.jf_answers.specs.Answers.{Answer, answer}
 use Rattle.jf_answers.specs.Runs.{Run, answers_from, answers, answer_text, texts_of, run_entries}
 use Rattle.jf_answers.proofs.AnswerLaws.{IsOf, Follows, answer-IsSoundAnswer}
 use Rattle.jf_answers.proofs.OneSession.{element-seam, length-push}
-use Rattle.jf_answers.specs.Explains.{Timeline, state_after, answer_with, floor_in, GivesEntry, Answered, Looks, HasAnsweredChange, IsAnswered, AreAnswered, own_after_replies, places_in_reply, places_owned}
+use Rattle.jf_answers.specs.Explains.{Timeline, state_after, answer_with, floor_in, GivesEntry, LineReply, IsQuietReply, HasAnsweredChange, IsAnswered, AreAnswered, own_after_replies, places_in_reply, places_owned}
 use Rattle.jf_history.specs.Sessions.{Session, HeldFloor, seen_by, timeline}
 use Rattle.jf_history.specs.Runs.{AreHeld, HasAnswered}
 use Rattle.jf_history.specs.Laws.{OneSessionIsAlone, OneSessionTries, OneSessionIsNeverBroken}
@@ -30,7 +30,7 @@ use Rattle.jf_history.proofs.HeldFloors.{floors_of, HaveMet-floors, answer_with-
 -- ---- numbers
 
 -- the next line that gives an entry gives a later one than any that was seen
-told-later : (h : Timeline) (own : Own) (seen p : ℕ) (ls : List (List ℕ)) (rs : List Answered) (ps : List ℕ) → AreAnswered h own seen ls rs → places_in_reply rs ≡ p ∷ ps → seen < p
+told-later : (h : Timeline) (own : Own) (seen p : ℕ) (ls : List (List ℕ)) (rs : List LineReply) (ps : List ℕ) → AreAnswered h own seen ls rs → places_in_reply rs ≡ p ∷ ps → seen < p
 told-later h own seen p ls [] ps a e = absurd (cc)
 told-later h own seen p [] (r ∷ rs) ps a e = absurd a
 told-later h own seen p (line ∷ ls) (r ∷ rs) ps a e = elim a.0.answered as (λ o. seen < p) [
@@ -64,7 +64,7 @@ record Reached (h : Timeline) (s : State) (own : Own) (seen : ℕ) (done left : 
   owned : AllByRecursion (λ e. owner_of e ≡ 0) left
 
 -- the replies are the answers of a session by itself, and the entries to come are theirs
-pub record Agrees (s : State) (own : Own) (ls : List (List ℕ)) (rs : List Answered) (left : List Entry) : Type 0 where
+pub record Agrees (s : State) (own : Own) (ls : List (List ℕ)) (rs : List LineReply) (left : List Entry) : Type 0 where
   pub texts : map (λ r. r.text) rs ≡ texts_of (answers_from s own ls)
   pub entries : map timeless left ≡ run_entries (answers_from s own ls)
   pub state : replay s left ≡ (answers_from s own ls).state
@@ -80,7 +80,7 @@ module _ (start : Start) (pins : List ℕ) (events : List Event) (one : start.pa
   abbrev h : Timeline
   h = timeline start pins events
 
-  module _ (s : State) (own : Own) (seen : ℕ) (line : List ℕ) (ls : List (List ℕ)) (r : Answered) (rs : List Answered) where
+  module _ (s : State) (own : Own) (seen : ℕ) (line : List ℕ) (ls : List (List ℕ)) (r : LineReply) (rs : List LineReply) where
     abbrev a : Answer
     a = answer s own line
 
@@ -105,7 +105,7 @@ module _ (start : Start) (pins : List ℕ) (events : List Event) (one : start.pa
         let seen_is = w.seen_is in
         omega arith
 
-    module _ (done left : List Entry) (w : Reached h s own seen done left) (l : Looks h own seen line r) (number : r.number ≡ length done) where
+    module _ (done left : List Entry) (w : Reached h s own seen done left) (l : IsQuietReply h own seen line r) (number : r.number ≡ length done) where
       at_here : state_after h r.number ≡ s
       at_here = here done left r.number w number
 
@@ -137,7 +137,7 @@ module _ (start : Start) (pins : List ℕ) (events : List Event) (one : start.pa
           let more : Agrees a.state a.own ls rs left = subst (λ (o : Own). Agrees a.state o ls rs left) own_same m in
           let text : r.text ≡ answer_text a.state.count a = l.text ∙ ap (λ (t : State). answer_text r.number (answer t own line)) at_here ∙ ap (λ n. answer_text n a) counted in
           record {
-            texts = ap (λ t. t ∷ map (λ (x : Answered). x.text) rs) text ∙ ap (λ ts. answer_text a.state.count a ∷ ts) more.texts;
+            texts = ap (λ t. t ∷ map (λ (x : LineReply). x.text) rs) text ∙ ap (λ ts. answer_text a.state.count a ∷ ts) more.texts;
             entries = more.entries ∙ sym (ap (λ o. option_to_list o ++ run_entries rest) gives_none);
             state = sym (ap (λ (t : State). replay t left) unchanged) ∙ more.state;
             own_after = ap (λ (o : Own). own_after_replies o rs) own_same ∙ more.own_after;
@@ -204,7 +204,7 @@ module _ (start : Start) (pins : List ℕ) (events : List Event) (one : start.pa
           let more : Agrees a.state a.own ls rs left = subst (λ (o : Own). Agrees a.state o ls rs left) own_changed m in
           let text : r.text ≡ answer_text a.state.count a = c.text ∙ ap (answer_text r.number) same_there ∙ ap (λ n. answer_text n a) (number_is ∙ sym counted_more) in
           record {
-            texts = ap (λ t. t ∷ map (λ (x : Answered). x.text) rs) text ∙ ap (λ ts. answer_text a.state.count a ∷ ts) more.texts;
+            texts = ap (λ t. t ∷ map (λ (x : LineReply). x.text) rs) text ∙ ap (λ ts. answer_text a.state.count a ∷ ts) more.texts;
             entries = ap (λ es. timeless e ∷ es) more.entries ∙ sym (ap (λ o. option_to_list o ++ run_entries rest) some);
             state = sym (ap (λ (t : State). replay t left) made) ∙ more.state;
             own_after = ap (λ (o : Own). own_after_replies o rs) own_changed ∙ more.own_after;
@@ -212,11 +212,11 @@ module _ (start : Start) (pins : List ℕ) (events : List Event) (one : start.pa
           }
 
   -- ---- all lines
-  abbrev Goal : List Answered → Type 0
+  abbrev Goal : List LineReply → Type 0
   Goal rs = (s : State) (own : Own) (seen : ℕ) (ls : List (List ℕ)) (done left : List Entry) → Reached h s own seen done left → AreAnswered h own seen ls rs → AreHeld start h.entries own rs
       → places_in_reply rs ≡ places_owned 0 seen left → length rs ≡ length ls → Agrees s own ls rs left
 
-  change_first : (r : Answered) (rs : List Answered) → Goal rs → (s : State) (own : Own) (seen : ℕ) (line : List ℕ) (ls : List (List ℕ)) (done left : List Entry) → Reached h s own seen done left
+  change_first : (r : LineReply) (rs : List LineReply) → Goal rs → (s : State) (own : Own) (seen : ℕ) (line : List ℕ) (ls : List (List ℕ)) (done left : List Entry) → Reached h s own seen done left
       → HasAnsweredChange h own seen line r → AreAnswered h r.own r.number ls rs → IfSome r.entry (HeldFloor start own (state_after h (r.number - 1))) → AreHeld start h.entries r.own rs
       → r.number ∷ places_in_reply rs ≡ places_owned 0 seen left → length rs ≡ length ls → Agrees s own (line ∷ ls) (r ∷ rs) left
   change_first r rs later s own seen line ls done [] w c more held helds told same = absurd (cc)
@@ -227,14 +227,14 @@ module _ (start : Start) (pins : List ℕ) (events : List Event) (one : start.pa
       agrees_change s own seen line ls r rs done e left w c held number
       (later (answer s own line).state r.own r.number ls (done ++ e ∷ []) left (reached_change s own seen line ls r rs done e left w c held number) more helds (told' ∙ ap (λ n. places_owned 0 n left) (sym number)) same)
 
-  quiet_first : (r : Answered) (rs : List Answered) → Goal rs → (s : State) (own : Own) (seen : ℕ) (line : List ℕ) (ls : List (List ℕ)) (done left : List Entry) → Reached h s own seen done left
-      → IsAnswered h own seen line r → Looks h own seen line r → AreAnswered h r.own r.number ls rs → AreHeld start h.entries r.own rs → places_in_reply rs ≡ places_owned 0 seen left → length rs ≡ length ls → Agrees s own (line ∷ ls) (r ∷ rs) left
+  quiet_first : (r : LineReply) (rs : List LineReply) → Goal rs → (s : State) (own : Own) (seen : ℕ) (line : List ℕ) (ls : List (List ℕ)) (done left : List Entry) → Reached h s own seen done left
+      → IsAnswered h own seen line r → IsQuietReply h own seen line r → AreAnswered h r.own r.number ls rs → AreHeld start h.entries r.own rs → places_in_reply rs ≡ places_owned 0 seen left → length rs ≡ length ls → Agrees s own (line ∷ ls) (r ∷ rs) left
   quiet_first r rs later s own seen line ls done left w is l more helds told same =
       let number = quiet_number s own seen line ls r rs done left w is more told in
       agrees_quiet s own seen line ls r rs done left w l number
       (later (answer s own line).state r.own r.number ls done left (reached_quiet s own seen line ls r rs done left w l number) more helds (told ∙ ap (λ n. places_owned 0 n left) (w.seen_is ∙ sym number)) same)
 
-  agree : (rs : List Answered) → Goal rs
+  agree : (rs : List LineReply) → Goal rs
   agree [] s own seen [] done left w a held told same = none_left s own seen left w.number w.owned told
   agree [] s own seen (line ∷ ls) done left w a held told same = absurd (omega arith)
   agree (r ∷ rs) s own seen [] done left w a held told same = absurd a
@@ -255,7 +255,7 @@ owners_none (Done e ∷ xs) h = let low = h.0 in (omega arith, owners_none xs h.
 owners_none (Mark pass e ∷ xs) h = owners_none xs h.1
 
 -- the first replies, as long as all entries are theirs
-pub agrees-from : (start : Start) (events : List Event) (ls : List (List ℕ)) (rs : List Answered) → start.passes ≡ 1 → start.state.count ≡ 0 → AreEvents start events
+pub agrees-from : (start : Start) (events : List Event) (ls : List (List ℕ)) (rs : List LineReply) → start.passes ≡ 1 → start.state.count ≡ 0 → AreEvents start events
     → AreAnswered (timeline start (floors_of events) events) (begun_session 0) 0 ls rs → AreHeld start (entries_among events) (begun_session 0) rs → places_owned 0 0 (entries_among events) ≡ places_in_reply rs → length rs ≡ length ls
     → Agrees start.state (begun_session 0) ls rs (entries_among events)
 unfolding replay
@@ -270,7 +270,7 @@ agrees-from start events ls rs one none are answered held places same =
       owned = owners_none events (subst (λ n. AllByRecursion (λ x. pass_named_by x < n) events) one are.named);
     }) answered held (sym places) same
 
-pub agrees-all : (store : Store) (now : Session) (ls : List (List ℕ)) (rs : List Answered) → store.start.passes ≡ 1 → store.start.state.count ≡ 0 → AreEvents store.start now.pass.seen
+pub agrees-all : (store : Store) (now : Session) (ls : List (List ℕ)) (rs : List LineReply) → store.start.passes ≡ 1 → store.start.state.count ≡ 0 → AreEvents store.start now.pass.seen
     → HasAnswered store.start (new_pass store 0) now ls rs → Agrees store.start.state (begun_session 0) ls rs (seen_by now.pass)
 agrees-all store now ls rs one none are a =
     agrees-from store.start now.pass.seen ls rs one none are (a.answered (floors_of now.pass.seen) (HaveMet-floors store.start now.pass.seen are)) a.held a.places a.all

@@ -18,7 +18,7 @@ use Rattle.jf_store.proofs.ClosingLaws.{starts_further}
 use Rattle.jf_answers.specs.Answers.{answer}
 use Rattle.jf_answers.specs.Runs.{answer_text}
 use Rattle.jf_answers.proofs.OneSession.{element-seam, length-push}
-use Rattle.jf_answers.specs.Explains.{Looks, HasAnsweredChange, GivesEntry, answer_with, floor_in, state_after, places_owned}
+use Rattle.jf_answers.specs.Explains.{IsQuietReply, HasAnsweredChange, GivesEntry, answer_with, floor_in, state_after, places_owned}
 use Rattle.jf_history.specs.Sessions.{Session, HaveMet, HeldFloor, FollowsLine, HasLooked, HasChanged, look_reply, change_reply, seen_by, timeline}
 use Rattle.jf_history.specs.Laws.{LooksReply, ChangesReply}
 use Rattle.jf_history.proofs.Places.{places_append, places_on}
@@ -34,7 +34,7 @@ module _ (start : Start) (old new : Session) (line : List ℕ) (q : HasLooked st
   now : (pins : List ℕ) → state_after (timeline start pins new.pass.seen) (length (seen_by new.pass)) ≡ state_after_events start new.pass.seen
   now pins = ap (replay start.state) (take-length (seen_by new.pass))
 
-  looks : (pins : List ℕ) → Looks (timeline start pins new.pass.seen) old.own (length (seen_by old.pass)) line (look_reply start old new.pass line)
+  looks : (pins : List ℕ) → IsQuietReply (timeline start pins new.pass.seen) old.own (length (seen_by old.pass)) line (look_reply start old new.pass line)
   looks pins =
       let back = sym (now pins) in
       record {

@@ -21,7 +21,7 @@ use Rattle.jf_answers.specs.Answers.{answer}
 use Rattle.jf_answers.specs.Refusals.{refused_by}
 use Rattle.jf_answers.specs.Runs.{answer_text}
 use Rattle.jf_answers.specs.Prunings.{next_floor}
-use Rattle.jf_answers.specs.Explains.{Timeline, Answered, IsFloor}
+use Rattle.jf_answers.specs.Explains.{Timeline, LineReply, IsFloor}
 use Rattle.jf_answers.proofs.Samples.{start, empty_root, none_there, commit_gives, said}
 use Rattle.jf_history.specs.Sessions.{Session, new_session, HeldFloor, HasReplied}
 use Rattle.jf_history.proofs.HeldFloors.{below_pins-le}
@@ -76,7 +76,7 @@ after_landing = record { store = table; start = Some (store_of 1).start; number 
 abbrev session : Session
 session = record { pass = after_landing; own = begun_session 0; over = false }
 
-abbrev told : Answered
+abbrev told : LineReply
 told = record { number = 1; text = said 1 (reply.Commit 1 empty_root); entry = Some landed; own = begun_session 0 }
 
 -- nothing is pinned, and each place of the board is free

@@ -13,7 +13,7 @@ use Rattle.jf_store.proofs.EventLaws.{entries_of-append}
 use Rattle.jf_store.proofs.ClosingLaws.{starts_further}
 use Rattle.jf_answers.specs.Own.{Own, begun_session}
 use Rattle.jf_answers.specs.OwnLines.{pin_of}
-use Rattle.jf_answers.specs.Explains.{Timeline, IsAmong, Answered, IsAnswered, AreAnswered, own_after_replies, places_in_reply, places_owned}
+use Rattle.jf_answers.specs.Explains.{Timeline, IsAmong, LineReply, IsAnswered, AreAnswered, own_after_replies, places_in_reply, places_owned}
 use Rattle.jf_history.specs.Sessions.{Session, HaveMet, HeldFloor, HasReplied, seen_by, timeline, entry_place}
 use Rattle.jf_history.specs.Runs.{AreHeld, HasAnswered}
 use Rattle.jf_history.specs.Laws.{NoneAnswered, OneMoreAnswered}
@@ -22,7 +22,7 @@ use Rattle.jf_history.proofs.Fronts.{AreMet-front, places_owned-within, AreAnswe
 use Rattle.jf_history.proofs.Later.{stay}
 use Rattle.jf_history.proofs.OnePass.{all_back}
 
-module _ (start : Start) (old : Pass) (mid new : Session) (ls : List (List ℕ)) (rs : List Answered) (line : List ℕ) (r : Answered) (a : HasAnswered start old mid ls rs) (t : HasReplied start mid new line r) where
+module _ (start : Start) (old : Pass) (mid new : Session) (ls : List (List ℕ)) (rs : List LineReply) (line : List ℕ) (r : LineReply) (a : HasAnswered start old mid ls rs) (t : HasReplied start mid new line r) where
   abbrev more : List Event
   more = t.follows.begins.0
 

@@ -5,14 +5,14 @@ use Rattle.jf_model.specs.Entries.{replay, timeless}
 use Rattle.jf_model.specs.declared.entries.Entry.{Entry}
 use Rattle.jf_answers.specs.Answers.{answer}
 use Rattle.jf_answers.specs.Runs.{Run, answers, texts_of, text_of, run_entries}
-use Rattle.jf_answers.specs.Explains.{Answered}
+use Rattle.jf_answers.specs.Explains.{LineReply}
 use Rattle.jf_history.specs.Sessions.{Session, seen_by}
 use Rattle.jf_history.specs.Runs.{HasReadInput}
 use Rattle.jf_history.specs.declared.end.End.{End}
 use Rattle.jf_history.specs.declared.end.End.TheVariants as end
 
 -- each reply is that of a session by itself from this state on; so are the entries, their moments aside, the state that they make, and what the session keeps for itself
-pub record AnswersAlone (s : State) (now : Session) (ls : List (List ℕ)) (rs : List Answered) : Type 0 where
+pub record AnswersAlone (s : State) (now : Session) (ls : List (List ℕ)) (rs : List LineReply) : Type 0 where
   pub texts : map (λ r. r.text) rs ≡ texts_of (answers s ls)
   pub entries : map timeless (seen_by now.pass) ≡ run_entries (answers s ls)
   pub state : replay s (seen_by now.pass) ≡ (answers s ls).state

@@ -12,19 +12,19 @@ use Rattle.jf_store.specs.Passes.{Store, Pass, Sees, SeesOwn, new_pass}
 use Rattle.jf_store.specs.Closing.{IsClosed}
 use Rattle.jf_answers.specs.Own.{Own, begun_session}
 use Rattle.jf_answers.specs.Runs.{answers}
-use Rattle.jf_answers.specs.Explains.{Answered, AreAnswered, ExplainsAnswers, IsAttempt, own_after_replies, text_in, timeline_of}
+use Rattle.jf_answers.specs.Explains.{LineReply, AreAnswered, ExplainsAnswers, IsAttempt, own_after_replies, text_in, timeline_of}
 use Rattle.jf_history.specs.Sessions.{Session, HoldsPins, new_session, seen_by, HasReplied, IsTry, IsBroken, HasLooked, HasChanged, look_reply, change_reply}
 use Rattle.jf_history.specs.Runs.{HasAnswered, EndsBy, HasRunOver}
 use Rattle.jf_history.specs.Alone.{AnswersAlone, IsTried, TriesAlone, RanAlone, ServedAlone}
 use Rattle.jf_history.specs.Sparing.{SparesPinsSince}
-use Rattle.jf_history.specs.Serving.{Served, IsServed, AreServed, FailedIn, scripts_of, replies_of, passes_of}
+use Rattle.jf_history.specs.Serving.{SessionOutcome, IsServed, AreServed, FailedIn, scripts_of, replies_of, passes_of}
 use Rattle.jf_history.specs.declared.end.End.{End}
 use Rattle.jf_history.specs.declared.end.End.TheVariants as end
 
 -- ---- from line to line
 -- what was answered stays so if entries follow
 abbrev pub AnswersStay : Type 0
-AnswersStay = (s : State) (pins : List ℕ) (es more : List Entry) (own : Own) (seen : ℕ) (ls : List (List ℕ)) (rs : List Answered)
+AnswersStay = (s : State) (pins : List ℕ) (es more : List Entry) (own : Own) (seen : ℕ) (ls : List (List ℕ)) (rs : List LineReply)
     → AreAnswered (record { start = s; entries = es; pins = pins }) own seen ls rs → AreAnswered (record { start = s; entries = es ++ more; pins = pins }) own seen ls rs
 
 -- a line that gives no entry is replied to
@@ -41,7 +41,7 @@ NoneAnswered = (start : Start) (p : Pass) → is_marked p.seen ≡ false → Hol
 
 -- a line more
 abbrev pub OneMoreAnswered : Type 0
-OneMoreAnswered = (start : Start) (old : Pass) (mid new : Session) (ls : List (List ℕ)) (rs : List Answered) (line : List ℕ) (r : Answered)
+OneMoreAnswered = (start : Start) (old : Pass) (mid new : Session) (ls : List (List ℕ)) (rs : List LineReply) (line : List ℕ) (r : LineReply)
     → HasAnswered start old mid ls rs → HasReplied start mid new line r → HasAnswered start old new (ls ++ line ∷ []) (rs ++ r ∷ [])
 
 -- ---- a store of one pass
@@ -59,22 +59,22 @@ OnePassCloses = (start : Start) (p : Pass) (entries : List Entry) (engine : Engi
 
 -- a session answers as one by itself, pins and prunings included
 abbrev pub OneSessionIsAlone : Type 0
-OneSessionIsAlone = (store : Store) (now : Session) (ls : List (List ℕ)) (rs : List Answered) → store.start.passes ≡ 1 → store.start.state.count ≡ 0 → AreEvents store.start now.pass.seen
+OneSessionIsAlone = (store : Store) (now : Session) (ls : List (List ℕ)) (rs : List LineReply) → store.start.passes ≡ 1 → store.start.state.count ≡ 0 → AreEvents store.start now.pass.seen
     → HasAnswered store.start (new_pass store 0) now ls rs → AnswersAlone store.start.state now ls rs
 
 -- if the disk failed, the attempt is the entry that the line gives after these answers
 abbrev pub OneSessionTries : Type 0
-OneSessionTries = (store : Store) (mid last : Session) (ls : List (List ℕ)) (rs : List Answered) (line : List ℕ) → store.start.passes ≡ 1 → store.start.state.count ≡ 0 → AreEvents store.start last.pass.seen
+OneSessionTries = (store : Store) (mid last : Session) (ls : List (List ℕ)) (rs : List LineReply) (line : List ℕ) → store.start.passes ≡ 1 → store.start.state.count ≡ 0 → AreEvents store.start last.pass.seen
     → HasAnswered store.start (new_pass store 0) mid ls rs → IsTry store.start mid last line → IsTried (answers store.start.state ls) line (attempt_of last.pass.seen)
 
 -- no mark of an earlier call is met
 abbrev pub OneSessionIsNeverBroken : Type 0
-OneSessionIsNeverBroken = (store : Store) (mid last : Session) (ls : List (List ℕ)) (rs : List Answered) (line : List ℕ) → store.start.passes ≡ 1 → AreEvents store.start last.pass.seen
+OneSessionIsNeverBroken = (store : Store) (mid last : Session) (ls : List (List ℕ)) (rs : List LineReply) (line : List ℕ) → store.start.passes ≡ 1 → AreEvents store.start last.pass.seen
     → HasAnswered store.start (new_pass store 0) mid ls rs → IsBroken mid last line → ⊥
 
 -- a session that ends after these lines answered them as one by itself, and if the disk failed, the attempt is the entry that the next line gives
 abbrev pub OneEndIsAlone : Type 0
-OneEndIsAlone = (store : Store) (e : End) (mid last : Session) (ls : List (List ℕ)) (rs : List Answered) (next : Option (List ℕ)) → store.start.passes ≡ 1 → store.start.state.count ≡ 0 → AreEvents store.start last.pass.seen
+OneEndIsAlone = (store : Store) (e : End) (mid last : Session) (ls : List (List ℕ)) (rs : List LineReply) (next : Option (List ℕ)) → store.start.passes ≡ 1 → store.start.state.count ≡ 0 → AreEvents store.start last.pass.seen
     → HasAnswered store.start (new_pass store 0) mid ls rs → EndsBy e store.start mid last next → AnswersAlone store.start.state last ls rs × TriesAlone e (answers store.start.state ls) next (attempt_of last.pass.seen)
 
 -- a whole run
@@ -85,26 +85,26 @@ OneRunIsAlone = (store : Store) (e : End) (new : Pass) (rest rest' text text' : 
 -- ---- a store that was closed
 -- its history explains all its sessions
 abbrev pub ClosedExplains : Type 0
-ClosedExplains = (store : Store) (ss : List Served) (out_of_memory : List ℕ) (entries : List Entry) (engine : Engine) → store.start.passes ≡ length ss → IsClosed store.start (passes_of ss) entries engine
+ClosedExplains = (store : Store) (ss : List SessionOutcome) (out_of_memory : List ℕ) (entries : List Entry) (engine : Engine) → store.start.passes ≡ length ss → IsClosed store.start (passes_of ss) entries engine
     → AreServed store out_of_memory 0 ss → ExplainsAnswers store.start.state entries (scripts_of ss) (replies_of ss) out_of_memory
 
 -- if the disk failed in a session, there is an attempt, and it is that of the session's first line without a reply
 abbrev pub ClosedTries : Type 0
-ClosedTries = (store : Store) (before after : List Served) (s : Served) (out_of_memory : List ℕ) (entries : List Entry) (engine : Engine) → store.start.passes ≡ length (before ++ s ∷ after)
+ClosedTries = (store : Store) (before after : List SessionOutcome) (s : SessionOutcome) (out_of_memory : List ℕ) (entries : List Entry) (engine : Engine) → store.start.passes ≡ length (before ++ s ∷ after)
     → (closed : IsClosed store.start (passes_of (before ++ s ∷ after)) entries engine) → AreServed store out_of_memory 0 (before ++ s ∷ after) → s.how ≡ end.DiskFault
     → (e : Entry) × (attempt_of closed.events ≡ Some e) × IsAttempt (timeline_of store.start.state entries (scripts_of (before ++ s ∷ after))) (length before) s.script s.replies e
 
 -- if there is an attempt, the disk failed in the session of which it is
 abbrev pub ClosedBlames : Type 0
-ClosedBlames = (store : Store) (ss : List Served) (out_of_memory : List ℕ) (entries : List Entry) (engine : Engine) (e : Entry) → store.start.passes ≡ length ss
+ClosedBlames = (store : Store) (ss : List SessionOutcome) (out_of_memory : List ℕ) (entries : List Entry) (engine : Engine) (e : Entry) → store.start.passes ≡ length ss
     → (closed : IsClosed store.start (passes_of ss) entries engine) → AreServed store out_of_memory 0 ss → attempt_of closed.events ≡ Some e → FailedIn store.start.state entries ss e
 
 -- a session that was alone is that of a session by itself
 abbrev pub OneServedIsAlone : Type 0
-OneServedIsAlone = (store : Store) (s : Served) (out_of_memory : List ℕ) (entries : List Entry) (engine : Engine) → store.start.passes ≡ 1 → store.start.state.count ≡ 0 → s.pass.number ≡ 0 → (s.how ≡ end.WriteFault → ⊥)
+OneServedIsAlone = (store : Store) (s : SessionOutcome) (out_of_memory : List ℕ) (entries : List Entry) (engine : Engine) → store.start.passes ≡ 1 → store.start.state.count ≡ 0 → s.pass.number ≡ 0 → (s.how ≡ end.WriteFault → ⊥)
     → (closed : IsClosed store.start (s.pass ∷ []) entries engine) → IsServed store out_of_memory 0 s → ServedAlone s.how store.start.state s.script entries (attempt_of closed.events) (text_in s.replies)
 
 -- each image left since it began represents versions whose floor is above no version pinned by a session after its replies
 abbrev pub ClosedSparesPins : Type 0
-ClosedSparesPins = (store : Store) (before after : List Served) (s : Served) (out_of_memory : List ℕ) (entries : List Entry) (engine : Engine) → IsClosed store.start (passes_of (before ++ s ∷ after)) entries engine
+ClosedSparesPins = (store : Store) (before after : List SessionOutcome) (s : SessionOutcome) (out_of_memory : List ℕ) (entries : List Entry) (engine : Engine) → IsClosed store.start (passes_of (before ++ s ∷ after)) entries engine
     → (served : IsServed store out_of_memory (length before) s) → (h : History) → engine.history ≡ Some h → SparesPinsSince store.start.moment h (own_after_replies (begun_session (length before)) served.had)

@@ -11,19 +11,19 @@ use Rattle.jf_store.specs.Starts.{Start}
 use Rattle.jf_store.specs.Passes.{Pass}
 use Rattle.jf_answers.specs.Own.{Own, begun_session}
 use Rattle.jf_answers.specs.OwnLines.{pin_of}
-use Rattle.jf_answers.specs.Explains.{IsAmong, Answered, AreAnswered, own_after_replies, seen_after_replies, places_owned, places_in_reply, text_in}
+use Rattle.jf_answers.specs.Explains.{IsAmong, LineReply, AreAnswered, own_after_replies, seen_after_replies, places_owned, places_in_reply, text_in}
 use Rattle.jf_history.specs.Sessions.{Session, HoldsPins, HaveMet, HeldFloor, timeline, seen_by, IsTry, IsBroken, HasDoneNothing}
 use Rattle.jf_history.specs.declared.end.End.{End}
 use Rattle.jf_history.specs.declared.end.End.TheVariants as end
 
 -- ---- lines answered
 -- the floor of each entry that a line gave is the bound, or was pinned, by the session itself if it is its own pass
-abbrev pub AreHeld : Start → List Entry → Own → List Answered → Type 0
+abbrev pub AreHeld : Start → List Entry → Own → List LineReply → Type 0
 AreHeld start es own [] = Unit {0}
 AreHeld start es own (r ∷ rs) = IfSome r.entry (HeldFloor start own (replay start.state (take (r.number - 1) es))) × AreHeld start es r.own rs
 
 -- a session answered these lines, its first, one after another, over a pass. The entries of its number, after those that the pass had seen, are those that the lines gave, each at its own place
-pub record HasAnswered (start : Start) (old : Pass) (now : Session) (ls : List (List ℕ)) (rs : List Answered) : Type 0 where
+pub record HasAnswered (start : Start) (old : Pass) (now : Session) (ls : List (List ℕ)) (rs : List LineReply) : Type 0 where
   pub begins : StartsWith now.pass.seen old.seen
   pub same : now.pass ≡ record old { seen = now.pass.seen; place = now.pass.place; pinned = now.pass.pinned }
   pub announced : (version : ℕ) → HasElement now.pass.place.announced version → HasElement old.place.announced version ⊎ IsAmong (filter_map pin_of ls) version
@@ -56,7 +56,7 @@ pub record HasReadInput (e : End) (all left : List ℕ) (ls : List (List ℕ)) (
 
 -- ---- what was written
 -- a front of the text of the first replies, with all of the text of those before the last of them; the lines after these were answered too, and gave no entry
-pub record IsCut (rs : List Answered) (text : List ℕ) : Type 0 where
+pub record IsCut (rs : List LineReply) (text : List ℕ) : Type 0 where
   pub count : ℕ
   pub within : count ≤ length rs
   pub missing : List ℕ
@@ -66,11 +66,11 @@ pub record IsCut (rs : List Answered) (text : List ℕ) : Type 0 where
   pub quiet : AllByRecursion (λ r. r.entry ≡ None) (drop count rs)
 
 -- the text of all these replies, or of all but the last
-abbrev pub IsButLast : List Answered → List ℕ → Type 0
+abbrev pub IsButLast : List LineReply → List ℕ → Type 0
 IsButLast rs text = (text ≡ text_in rs) ⊎ (text ≡ text_in (take (length rs - 1) rs))
 
 -- what was written of these replies, by how the run ended
-abbrev pub WritesBy : End → List Answered → List ℕ → Type 0
+abbrev pub WritesBy : End → List LineReply → List ℕ → Type 0
 WritesBy end.Done rs text = text ≡ text_in rs
 WritesBy end.ReadFault rs text = text ≡ text_in rs
 WritesBy end.WriteFault rs text = IsCut rs text
@@ -79,7 +79,7 @@ WritesBy end.Broken rs text = text ≡ text_in rs
 WritesBy end.Memory rs text = IsButLast rs text
 
 -- a run appended its text to the output, if that is known
-pub record Writes (e : End) (rs : List Answered) (old new : Option (List ℕ)) : Type 0 where
+pub record Writes (e : End) (rs : List LineReply) (old new : Option (List ℕ)) : Type 0 where
   pub text : List ℕ
   pub by : WritesBy e rs text
   pub appended : new ≡ option_map (λ t. t ++ text) old
@@ -102,7 +102,7 @@ EndsBy end.Memory start mid last next = IsAtRest mid last next
 -- a run over the rest of an input, whose replies are appended to a text
 pub record HasRunOver (e : End) (start : Start) (old new : Pass) (rest rest' text text' : Option (List ℕ)) : Type 0 where
   pub done : List (List ℕ)
-  pub replies : List Answered
+  pub replies : List LineReply
   pub next : Option (List ℕ)
   pub mid : Session
   pub last : Session

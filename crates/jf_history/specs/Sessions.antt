@@ -18,7 +18,7 @@ use Rattle.jf_answers.specs.Own.{Own, begun_session, version_pinned_at}
 use Rattle.jf_answers.specs.Answers.{answer}
 use Rattle.jf_answers.specs.Runs.{answer_text}
 use Rattle.jf_answers.specs.OwnLines.{is_own_line, pin_of}
-use Rattle.jf_answers.specs.Explains.{Timeline, IsAmong, Answered, IsAnswered, GivesEntry, answer_with, floor_in, places_owned}
+use Rattle.jf_answers.specs.Explains.{Timeline, IsAmong, LineReply, IsAnswered, GivesEntry, answer_with, floor_in, places_owned}
 
 -- what a session shows: its pass, what it keeps for itself, and whether it is over
 pub record Session : Type 0 where
@@ -69,11 +69,11 @@ pub record FollowsLine (old new : Pass) (line : List ℕ) : Type 0 where
   pub announced : (version : ℕ) → HasElement new.place.announced version → HasElement old.place.announced version ⊎ (pin_of line ≡ Some version)
 
 -- the place of the entry that a line gave
-abbrev pub entry_place : Answered → List ℕ
+abbrev pub entry_place : LineReply → List ℕ
 entry_place r = if is_some r.entry then r.number ∷ [] else []
 
 -- the line was answered over what the pass has then seen. Its entry, if it gave one, is the last of that, and no other entry of the session is new
-pub record HasReplied (start : Start) (old new : Session) (line : List ℕ) (r : Answered) : Type 0 where
+pub record HasReplied (start : Start) (old new : Session) (line : List ℕ) (r : LineReply) : Type 0 where
   pub follows : FollowsLine old.pass new.pass line
   pub unmarked : is_marked new.pass.seen ≡ false
   pub pins : HoldsPins new
@@ -108,13 +108,13 @@ pub record IsBroken (old new : Session) (line : List ℕ) : Type 0 where
 
 -- ---- replies over what a pass has seen
 -- the reply to a line that gives no entry
-abbrev pub look_reply : Start → Session → Pass → List ℕ → Answered
+abbrev pub look_reply : Start → Session → Pass → List ℕ → LineReply
 look_reply start old new line =
     let a = answer (state_after_events start new.seen) old.own line in
     record { number = length (seen_by new); text = answer_text (length (seen_by new)) a; entry = None; own = a.own }
 
 -- the reply to a line that gives an entry after these events
-abbrev pub change_reply : Start → Session → List Event → Entry → List ℕ → Answered
+abbrev pub change_reply : Start → Session → List Event → Entry → List ℕ → LineReply
 change_reply start old before e line =
     let a = answer_with (floor_in e) (state_after_events start before) old.own line in
     record { number = length (entries_among before) + 1; text = answer_text (length (entries_among before) + 1) a; entry = Some e; own = a.own }

@@ -2,7 +2,7 @@
 use Rattle.std.specs.Prelude.{Result, Ok}
 use Rattle.std.proofs.Common.{◌≡◌, ℕ, ◌+◌, List, ◌++◌, Option, Some, [], ◌∷◌, refl, sym, ap, ◌∙◌, subst, append_assoc, append-nil, inl, length, ◌<◌, inr, take}
 use Rattle.std.specs.List.{AllByRecursion, position_or_len, before_first, after_first}
-use Rattle.jf_io.specs.LineReader.{Held, IsShortened, IsFetched, is_line_feed}
+use Rattle.jf_io.specs.LineReader.{ReaderState, IsShortened, IsFetched, is_line_feed}
 use Rattle.jf_io.specs.Inputs.{IsPlain, text_of_lines, IsLineFound}
 use Rattle.jf_io.specs.Lines.{lines, bytes_after}
 use Rattle.jf_io.specs.LinesRead.{AreFirst}
@@ -13,31 +13,31 @@ use Rattle.jf_io.proofs.Plain.{held_plain, front_split, front_plain, front_whole
 use Rattle.jf_io.proofs.EndedLines.{lines-none, plain_more}
 use Rattle.jf_io.proofs.AfterLines.{bytes_after-next}
 use Rattle.jf_io.proofs.Found.{where_of, found_whole, lines_found, cut_of, last_of}
-use Rattle.jf_input.specs.Feeds.{Appends, HandsOn, Gathers, IsGathered, StopsGathering, ReadsAll, HasRead, Fed, ReadsLinesOf, ReadsFew, front_of_line, EndsAfter}
+use Rattle.jf_input.specs.Feeds.{Appends, HandsOn, Gathers, IsGathered, StopsGathering, ReadsAll, HasRead, HasFed, ReadsLinesOf, ReadsFew, front_of_line, EndsAfter}
 use Rattle.jf_input.specs.declared.feeding.Feeding.{Feeding}
 use Rattle.jf_input.specs.declared.feeding.Feeding.TheVariants as feeding
 use Rattle.jf_input.proofs.Gathering.{Keeps, Written, KeptCut, keeps_none, keeps_handed, keeps_line, keeps_cut, is_gathered_line, written_none, written_all}
 
 -- ---- the input alone
 -- these lines were taken, and of the bytes after them this is held
-pub record Reads (source source' : Option (List ℕ)) (held : Held) (ls : List (List ℕ)) : Type 0 where
+pub record Reads (source source' : Option (List ℕ)) (held : ReaderState) (ls : List (List ℕ)) : Type 0 where
   pub plain : AllByRecursion IsPlain ls
   pub limit : held.limit ≡ 8500
   pub whole : List ℕ
   pub shortened : IsShortened 8500 whole held.bytes
   pub input : (input : List ℕ) → source ≡ Some input → (left : List ℕ) × (source' ≡ Some left) × (input ≡ text_of_lines ls ++ whole ++ left)
 
-reads_none : {source : Option (List ℕ)} {piece : ℕ} (held : Held) → held ≡ record { limit = 8500; piece = piece; bytes = [] } → Reads source source held []
+reads_none : {source : Option (List ℕ)} {piece : ℕ} (held : ReaderState) → held ≡ record { limit = 8500; piece = piece; bytes = [] } → Reads source source held []
 reads_none held is = record {
   plain = tt;
-  limit = ap (λ (h : Held). h.limit) is;
+  limit = ap (λ (h : ReaderState). h.limit) is;
   whole = [];
-  shortened = subst (λ (h : Held). IsShortened 8500 [] h.bytes) (sym is) (is_shortened-whole 8500 []);
+  shortened = subst (λ (h : ReaderState). IsShortened 8500 [] h.bytes) (sym is) (is_shortened-whole 8500 []);
   input = λ input is. (input, is, refl);
 }
 
 -- bytes were taken
-reads_fetched : {source source' source'' : Option (List ℕ)} {held held' : Held} {ls : List (List ℕ)} → Reads source source' held ls → held'.limit ≡ held.limit
+reads_fetched : {source source' source'' : Option (List ℕ)} {held held' : ReaderState} {ls : List (List ℕ)} → Reads source source' held ls → held'.limit ≡ held.limit
     → ((whole : List ℕ) → IsShortened held.limit whole held.bytes → IsFetched held.limit whole held'.bytes source' source'') → Reads source source'' held' ls
 reads_fetched {source' = source'} {source'' = source''} {held = held} {held' = held'} {ls = ls} f same kept =
     let k = subst (λ (n : ℕ). IsFetched n f.whole held'.bytes source' source'') f.limit (kept f.whole (subst (λ (n : ℕ). IsShortened n f.whole held.bytes) (sym f.limit) f.shortened)) in
@@ -55,7 +55,7 @@ reads_fetched {source' = source'} {source'' = source''} {held = held} {held' = h
           );
     }
 
-module _ {source source' : Option (List ℕ)} {held : Held} {ls : List (List ℕ)} (f : Reads source source' held ls) where
+module _ {source source' : Option (List ℕ)} {held : ReaderState} {ls : List (List ℕ)} (f : Reads source source' held ls) where
   abbrev read_so_far : (input left : List ℕ) → input ≡ text_of_lines ls ++ f.whole ++ left → HasRead input left ls
   read_so_far input left is = record {
     taken = text_of_lines ls ++ f.whole;
@@ -127,14 +127,14 @@ module _ {source source' : Option (List ℕ)} {held : Held} {ls : List (List ℕ
   given line front = front ∙ ap (λ n. take (n + 1) (before_first is_line_feed held.bytes)) f.limit ∙ line_front-text 8500 f.whole held.bytes f.shortened
 
   -- it was taken with its line feed, and more may follow
-  reads_line : {held' : Held} → (position_or_len is_line_feed held.bytes ≡ length held.bytes → ⊥) → held' ≡ record held { bytes = after_first is_line_feed held.bytes } → Reads source source' held' more
+  reads_line : {held' : ReaderState} → (position_or_len is_line_feed held.bytes ≡ length held.bytes → ⊥) → held' ≡ record held { bytes = after_first is_line_feed held.bytes } → Reads source source' held' more
   reads_line unlast advanced =
       let behind = after_first is_line_feed held.bytes in
       record {
         plain = plain_more ls real f.plain (front_plain f.whole);
-        limit = ap (λ (h : Held). h.limit) advanced ∙ f.limit;
+        limit = ap (λ (h : ReaderState). h.limit) advanced ∙ f.limit;
         whole = behind;
-        shortened = subst (λ (h : Held). IsShortened 8500 behind h.bytes) (sym advanced) (is_shortened-whole 8500 behind);
+        shortened = subst (λ (h : ReaderState). IsShortened 8500 behind h.bytes) (sym advanced) (is_shortened-whole 8500 behind);
         input = λ input told.
             let i = f.input input told in
             let cut : f.whole ≡ real ++ 10 ∷ behind =
@@ -154,7 +154,7 @@ module _ {source source' : Option (List ℕ)} {held : Held} {ls : List (List ℕ
 
 -- ---- the machine and the text too
 -- these lines were taken, what they add written but for what is gathered, and of the bytes after them this is held
-pub record SoFar {M F : Type 0} (takes : M → List ℕ → M → Result (List ℕ) F → Type 0) (quiet : M → M → Type 0) (old now : M) (source source' text text' : Option (List ℕ)) (held : Held) (out : List ℕ) : Type 0 where
+pub record SoFar {M F : Type 0} (takes : M → List ℕ → M → Result (List ℕ) F → Type 0) (quiet : M → M → Type 0) (old now : M) (source source' text text' : Option (List ℕ)) (held : ReaderState) (out : List ℕ) : Type 0 where
   pub ls : List (List ℕ)
   pub reads : Reads source source' held ls
   pub keeps : Keeps takes quiet old now text text' out ls
@@ -165,7 +165,7 @@ pub record AtEnd {M F : Type 0} (takes : M → List ℕ → M → Result (List �
   pub all : ReadsAll source source' ls
   pub written : Written takes old now text text' ls
 
-pub so_far_none : {M F : Type 0} {takes : M → List ℕ → M → Result (List ℕ) F → Type 0} {quiet : M → M → Type 0} {m : M} {source text : Option (List ℕ)} {piece : ℕ} (held : Held) (out : List ℕ) → held ≡ record { limit = 8500; piece = piece; bytes = [] } → out ≡ []
+pub so_far_none : {M F : Type 0} {takes : M → List ℕ → M → Result (List ℕ) F → Type 0} {quiet : M → M → Type 0} {m : M} {source text : Option (List ℕ)} {piece : ℕ} (held : ReaderState) (out : List ℕ) → held ≡ record { limit = 8500; piece = piece; bytes = [] } → out ≡ []
     → SoFar takes quiet m m source source text text held out
 so_far_none {takes = takes} {quiet = quiet} {m = m} {text = text} held out is none = record {
   ls = [];
@@ -175,7 +175,7 @@ so_far_none {takes = takes} {quiet = quiet} {m = m} {text = text} held out is no
 
 -- no more is gathered in a line that is cut
 fed_cut_in : {M F : Type 0} {takes : M → List ℕ → M → Result (List ℕ) F → Type 0} {ends : M → M → Result (List ℕ) F → Type 0} {quiet : M → M → Type 0} {old new : M} {source source' text text' : Option (List ℕ)} {piece : ℕ} {ls : List (List ℕ)}
-    → KeptCut takes quiet old new text text' ls → ReadsLinesOf source source' ls → Fed takes ends quiet piece feeding.WriteFault old new source source' text text'
+    → KeptCut takes quiet old new text text' ls → ReadsLinesOf source source' ls → HasFed takes ends quiet piece feeding.WriteFault old new source source' text text'
 fed_cut_in {source = source} {source' = source'} c reads = record {
   done = c.done;
   mid = c.mid;
@@ -190,10 +190,10 @@ fed_cut_in {source = source} {source' = source'} c reads = record {
 abbrev pub Step : {M F : Type 0} → (M → List ℕ → M → Result (List ℕ) F → Type 0) → (M → M → Type 0) → M → List ℕ → M → Option (List ℕ) → Option (List ℕ) → List ℕ → List ℕ → Type 0
 Step takes quiet now line next text text' out out' = (whole : List ℕ) → line ≡ front_of_line whole → (t : List ℕ) × takes now whole next (Ok t) × Gathers quiet now next text text' out out' t
 
-module _ {M F : Type 0} {takes : M → List ℕ → M → Result (List ℕ) F → Type 0} {quiet : M → M → Type 0} {old now : M} {source source' text text' : Option (List ℕ)} {held : Held} {out : List ℕ} (f : SoFar takes quiet old now source source' text text' held out) where
+module _ {M F : Type 0} {takes : M → List ℕ → M → Result (List ℕ) F → Type 0} {quiet : M → M → Type 0} {old now : M} {source source' text text' : Option (List ℕ)} {held : ReaderState} {out : List ℕ} (f : SoFar takes quiet old now source source' text text' held out) where
   -- ---- between two lines
   -- it was looked for the end of a line
-  pub so_far_same : {held' : Held} → held' ≡ held → SoFar takes quiet old now source source' text text' held' out
+  pub so_far_same : {held' : ReaderState} → held' ≡ held → SoFar takes quiet old now source source' text text' held' out
   so_far_same same = record { ls = f.ls; reads = subst (λ h. Reads source source' h f.ls) (sym same) f.reads; keeps = f.keeps }
 
   -- what was gathered was written, or nothing was
@@ -201,16 +201,16 @@ module _ {M F : Type 0} {takes : M → List ℕ → M → Result (List ℕ) F �
   so_far_handed on = record { ls = f.ls; reads = f.reads; keeps = keeps_handed f.keeps on }
 
   -- bytes were taken
-  pub so_far_fetched : {source'' : Option (List ℕ)} {held' : Held} → held'.limit ≡ held.limit → ((whole : List ℕ) → IsShortened held.limit whole held.bytes → IsFetched held.limit whole held'.bytes source' source'')
+  pub so_far_fetched : {source'' : Option (List ℕ)} {held' : ReaderState} → held'.limit ≡ held.limit → ((whole : List ℕ) → IsShortened held.limit whole held.bytes → IsFetched held.limit whole held'.bytes source' source'')
       → SoFar takes quiet old now source source'' text text' held' out
   so_far_fetched same kept = record { ls = f.ls; reads = reads_fetched f.reads same kept; keeps = f.keeps }
 
   -- not all that was gathered could be written
-  pub fed_cut : {ends : M → M → Result (List ℕ) F → Type 0} {piece : ℕ} {text'' : Option (List ℕ)} → IsCutShort text' text'' out → Fed takes ends quiet piece feeding.WriteFault old now source source' text text''
+  pub fed_cut : {ends : M → M → Result (List ℕ) F → Type 0} {piece : ℕ} {text'' : Option (List ℕ)} → IsCutShort text' text'' out → HasFed takes ends quiet piece feeding.WriteFault old now source source' text text''
   fed_cut {text'' = text''} c = fed_cut_in (keeps_cut [] f.keeps c refl) (subst (λ (x : List (List ℕ)). ReadsLinesOf source source' x) (sym (append-nil f.ls)) (reads_lines f.reads))
 
   -- the source failed, and no line is held whole
-  pub fed_unread : {ends : M → M → Result (List ℕ) F → Type 0} {piece : ℕ} → out ≡ [] → position_or_len is_line_feed held.bytes ≡ length held.bytes → Fed takes ends quiet piece feeding.ReadFault old now source source' text text'
+  pub fed_unread : {ends : M → M → Result (List ℕ) F → Type 0} {piece : ℕ} → out ≡ [] → position_or_len is_line_feed held.bytes ≡ length held.bytes → HasFed takes ends quiet piece feeding.ReadFault old now source source' text text'
   fed_unread none unfinished =
       let w = written_none f.keeps none in
       let r = f.reads in
@@ -231,7 +231,7 @@ module _ {M F : Type 0} {takes : M → List ℕ → M → Result (List ℕ) F �
       }
 
   -- all that was gathered is written, and there is no memory for the next line
-  pub fed_wanting : {ends : M → M → Result (List ℕ) F → Type 0} {piece : ℕ} {text'' : Option (List ℕ)} → Appends text' text'' out → Fed takes ends quiet piece feeding.Memory old now source source' text text''
+  pub fed_wanting : {ends : M → M → Result (List ℕ) F → Type 0} {piece : ℕ} {text'' : Option (List ℕ)} → Appends text' text'' out → HasFed takes ends quiet piece feeding.Memory old now source source' text text''
   fed_wanting {text'' = text''} put =
       let w = written_all f.keeps put in
       record {
@@ -245,7 +245,7 @@ module _ {M F : Type 0} {takes : M → List ℕ → M → Result (List ℕ) F �
       }
 
   -- the same, where nothing is gathered
-  pub fed_wanting_none : {ends : M → M → Result (List ℕ) F → Type 0} {piece : ℕ} → out ≡ [] → Fed takes ends quiet piece feeding.Memory old now source source' text text'
+  pub fed_wanting_none : {ends : M → M → Result (List ℕ) F → Type 0} {piece : ℕ} → out ≡ [] → HasFed takes ends quiet piece feeding.Memory old now source source' text text'
   fed_wanting_none none =
       let w = written_none f.keeps none in
       record {
@@ -268,7 +268,7 @@ module _ {M F : Type 0} {takes : M → List ℕ → M → Result (List ℕ) F �
     keeps_next step = let s = step (real f.reads) (given f.reads line front) in keeps_line (real f.reads) s.0 f.keeps s.1 s.2
 
     -- it was taken, and more may follow
-    pub so_far_line : {out' : List ℕ} {held' : Held} → (position_or_len is_line_feed held.bytes ≡ length held.bytes → ⊥) → Step takes quiet now line next text' text'' out out' → held' ≡ record held { bytes = after_first is_line_feed held.bytes }
+    pub so_far_line : {out' : List ℕ} {held' : ReaderState} → (position_or_len is_line_feed held.bytes ≡ length held.bytes → ⊥) → Step takes quiet now line next text' text'' out out' → held' ≡ record held { bytes = after_first is_line_feed held.bytes }
         → SoFar takes quiet old next source source' text text'' held' out'
     so_far_line unlast step advanced = record { ls = more f.reads; reads = reads_line f.reads unlast advanced; keeps = keeps_next step }
 
@@ -281,16 +281,16 @@ module _ {M F : Type 0} {takes : M → List ℕ → M → Result (List ℕ) F �
     at_end_line unfinished found step put = record { ls = more f.reads; all = reads_all_line f.reads unfinished found; written = written_all (keeps_next step) put }
 
     -- it was the last line, and not all that was gathered could be written
-    pub fed_cut_last : {ends : M → M → Result (List ℕ) F → Type 0} {piece : ℕ} {out' : List ℕ} {text''' : Option (List ℕ)} → IsLineFound held.bytes source' → Step takes quiet now line next text' text'' out out' → IsCutShort text'' text''' out' → Fed takes ends quiet piece feeding.WriteFault old next source source' text text'''
+    pub fed_cut_last : {ends : M → M → Result (List ℕ) F → Type 0} {piece : ℕ} {out' : List ℕ} {text''' : Option (List ℕ)} → IsLineFound held.bytes source' → Step takes quiet now line next text' text'' out out' → IsCutShort text'' text''' out' → HasFed takes ends quiet piece feeding.WriteFault old next source source' text text'''
     fed_cut_last found step c = fed_cut_in (keeps_cut [] (keeps_next step) c refl) (subst (λ (x : List (List ℕ)). ReadsLinesOf source source' x) (sym (append-nil (more f.reads))) (read_line f.reads found))
 
     -- it ends there
     pub fed_at_line : {ends : M → M → Result (List ℕ) F → Type 0} {piece : ℕ} (how : Feeding F) → IsLineFound held.bytes source' → length (after_first is_line_feed held.bytes) < piece → ((whole : List ℕ) → line ≡ front_of_line whole → StopsGathering takes quiet how now whole next text' text'' out)
-        → Fed takes ends quiet piece how old next source source' text text''
+        → HasFed takes ends quiet piece how old next source source' text text''
     fed_at_line {ends = ends} {piece = piece} feeding.WriteFault found few e =
         let s = e (real f.reads) (given f.reads line front) in
         elim s.1 [
-          | inl same ↦ subst (λ (m : M). Fed takes ends quiet piece feeding.WriteFault old m source source' text text'') (sym same) (fed_cut s.0)
+          | inl same ↦ subst (λ (m : M). HasFed takes ends quiet piece feeding.WriteFault old m source source' text text'') (sym same) (fed_cut s.0)
           | inr on ↦ fed_cut_in (keeps_cut (real f.reads ∷ []) f.keeps s.0 (next, on.0, on.1, on.2, refl)) (read_line f.reads found)
         ]
     fed_at_line (feeding.Stopped why) found few e =
@@ -311,7 +311,7 @@ module _ {M F : Type 0} {takes : M → List ℕ → M → Result (List ℕ) F �
 
 -- ---- all lines were taken
 pub fed_behind : {M F : Type 0} {takes : M → List ℕ → M → Result (List ℕ) F → Type 0} {ends : M → M → Result (List ℕ) F → Type 0} {quiet : M → M → Type 0} {old now next : M} {source source' text text' text'' : Option (List ℕ)} {piece : ℕ} {how : Feeding F}
-    → AtEnd takes old now source source' text text' → EndsAfter ends how now next text' text'' → Fed takes ends quiet piece how old next source source' text text''
+    → AtEnd takes old now source source' text text' → EndsAfter ends how now next text' text'' → HasFed takes ends quiet piece how old next source source' text text''
 fed_behind {now = now} {text' = text'} f e = record {
   done = f.ls;
   mid = now;

@@ -3,10 +3,10 @@
 use Rattle.std.specs.Prelude.{Result, Err, Bool, false}
 use Rattle.std.proofs.Common.{◌≡◌, ◌⊎◌, ℕ, ◌+◌, List, ◌++◌, Option, Some, None, [], ◌∷◌, refl, sym, ◌∙◌, subst, append-nil, inl, inr, length, ◌<◌, take}
 use Rattle.std.specs.List.{position_or_len, before_first, after_first}
-use Rattle.jf_io.specs.LineReader.{Held, IsShortened, IsFetched, is_line_feed}
+use Rattle.jf_io.specs.LineReader.{ReaderState, IsShortened, IsFetched, is_line_feed}
 use Rattle.jf_io.specs.Inputs.{IsLineFound}
 use Rattle.jf_io.proofs.Written.{nothing_written}
-use Rattle.jf_input.specs.Feeds.{HandsOn, IsGathered, Fed, EndsBetween, EndsAtLine, EndsAfter, ReadsToLine, ReadsAll, front_of_line}
+use Rattle.jf_input.specs.Feeds.{HandsOn, IsGathered, HasFed, EndsBetween, EndsAtLine, EndsAfter, ReadsToLine, ReadsAll, front_of_line}
 use Rattle.jf_input.specs.FeedsThrough.{IsPutThrough, IsPutNext, AddsAtEnd, GoesThrough}
 use Rattle.jf_input.specs.declared.feeding.Feeding.{Feeding}
 use Rattle.jf_input.specs.declared.feeding.Feeding.TheVariants as feeding
@@ -44,7 +44,7 @@ module _ {M F : Type 0} (takes : M → List ℕ → M → Result (List ℕ) F �
   untold (feeding.Stopped why) done mid said all ok (inr (inr e)) = ([], refl, no_more e.0.1, inr (inr ((e.0.0, refl), e.1)))
 
 goes_through : {M F : Type 0} {takes : M → List ℕ → M → Result (List ℕ) F → Type 0} {ends : M → M → Result (List ℕ) F → Type 0} {quiet : M → M → Type 0} {piece : ℕ} {how : Feeding F} {old new : M} {source source' : Option (List ℕ)} {is_cut : Bool} {text text' : Option (List ℕ)} {all : List ℕ}
-    → Fed takes ends quiet piece how old new source source' (Some []) (Some all) → (how ≡ feeding.WriteFault → ⊥) → IsPutThrough is_cut text text' all → GoesThrough takes ends quiet piece how is_cut old new source source' text text'
+    → HasFed takes ends quiet piece how old new source source' (Some []) (Some all) → (how ≡ feeding.WriteFault → ⊥) → IsPutThrough is_cut text text' all → GoesThrough takes ends quiet piece how is_cut old new source source' text text'
 goes_through {takes = takes} {ends = ends} {quiet = quiet} {piece = piece} {how = how} {new = new} {source = source} {source' = source'} {is_cut = is_cut} {text = text} {text' = text'} {all = all} f ok put =
     let u = untold takes ends quiet piece new source source' how f.done f.mid f.said all ok (subst (λ (t : Option (List ℕ)). Ended takes ends quiet piece new source source' how f.done f.mid t (Some all)) f.written f.ended) in
     record {
@@ -56,7 +56,7 @@ goes_through {takes = takes} {ends = ends} {quiet = quiet} {piece = piece} {how 
 
 -- ---- the machine, the input and the sink
 -- these lines were taken, what they add put through but for what is gathered, and of the bytes after them this is held
-pub record ThroughSoFar {M F : Type 0} (takes : M → List ℕ → M → Result (List ℕ) F → Type 0) (quiet : M → M → Type 0) (old now : M) (source source' : Option (List ℕ)) (held : Held) (out : List ℕ) (is_cut : Bool) (text text' : Option (List ℕ)) : Type 0 where
+pub record ThroughSoFar {M F : Type 0} (takes : M → List ℕ → M → Result (List ℕ) F → Type 0) (quiet : M → M → Type 0) (old now : M) (source source' : Option (List ℕ)) (held : ReaderState) (out : List ℕ) (is_cut : Bool) (text text' : Option (List ℕ)) : Type 0 where
   pub said : List ℕ
   pub so_far : SoFar takes quiet old now source source' (Some []) (Some said) held out
   pub put : IsPutThrough is_cut text text' said
@@ -67,14 +67,14 @@ pub record ThroughEnd {M F : Type 0} (takes : M → List ℕ → M → Result (L
   pub at_end : AtEnd takes old now source source' (Some []) (Some said)
   pub put : IsPutThrough is_cut text text' said
 
-pub through_none : {M F : Type 0} {takes : M → List ℕ → M → Result (List ℕ) F → Type 0} {quiet : M → M → Type 0} {m : M} {source text : Option (List ℕ)} {piece : ℕ} (held : Held) (out : List ℕ) → held ≡ record { limit = 8500; piece = piece; bytes = [] } → out ≡ []
+pub through_none : {M F : Type 0} {takes : M → List ℕ → M → Result (List ℕ) F → Type 0} {quiet : M → M → Type 0} {m : M} {source text : Option (List ℕ)} {piece : ℕ} (held : ReaderState) (out : List ℕ) → held ≡ record { limit = 8500; piece = piece; bytes = [] } → out ≡ []
     → ThroughSoFar takes quiet m m source source held out false text text
 through_none {text = text} held out is none = record { said = []; so_far = so_far_none held out is none; put = nothing_written text }
 
-module _ {M F : Type 0} {takes : M → List ℕ → M → Result (List ℕ) F → Type 0} {quiet : M → M → Type 0} {old now : M} {source source' : Option (List ℕ)} {held : Held} {out : List ℕ} {was_cut : Bool} {text text' : Option (List ℕ)} (f : ThroughSoFar takes quiet old now source source' held out was_cut text text') where
+module _ {M F : Type 0} {takes : M → List ℕ → M → Result (List ℕ) F → Type 0} {quiet : M → M → Type 0} {old now : M} {source source' : Option (List ℕ)} {held : ReaderState} {out : List ℕ} {was_cut : Bool} {text text' : Option (List ℕ)} (f : ThroughSoFar takes quiet old now source source' held out was_cut text text') where
   -- ---- between two lines
   -- what was gathered was put through, or nothing was, and then bytes were taken
-  pub through_fetched : {found fetched : Held} {source'' : Option (List ℕ)} {out' : List ℕ} {is_cut : Bool} {text'' : Option (List ℕ)} → found ≡ held → (put : List ℕ) × IsPutNext was_cut is_cut text' text'' put × HandsOn (Some []) (Some put) out out'
+  pub through_fetched : {found fetched : ReaderState} {source'' : Option (List ℕ)} {out' : List ℕ} {is_cut : Bool} {text'' : Option (List ℕ)} → found ≡ held → (put : List ℕ) × IsPutNext was_cut is_cut text' text'' put × HandsOn (Some []) (Some put) out out'
       → fetched.limit ≡ found.limit → ((whole : List ℕ) → IsShortened found.limit whole found.bytes → IsFetched found.limit whole fetched.bytes source' source'') → ThroughSoFar takes quiet old now source source'' fetched out' is_cut text text''
   through_fetched {is_cut = is_cut} {text'' = text''} same put limit kept = record {
     said = f.said ++ put.0;
@@ -104,7 +104,7 @@ module _ {M F : Type 0} {takes : M → List ℕ → M → Result (List ℕ) F �
     step_after put step whole given = let s = step whole given in (s.0, s.1, gathers_after f.said put quiet s.2)
 
     -- it was taken, and more may follow
-    pub through_line : {out' : List ℕ} {held' : Held} {is_cut : Bool} {text'' : Option (List ℕ)} → (position_or_len is_line_feed held.bytes ≡ length held.bytes → ⊥) → (put : List ℕ) × IsPutNext was_cut is_cut text' text'' put × Step takes quiet now line next (Some []) (Some put) out out'
+    pub through_line : {out' : List ℕ} {held' : ReaderState} {is_cut : Bool} {text'' : Option (List ℕ)} → (position_or_len is_line_feed held.bytes ≡ length held.bytes → ⊥) → (put : List ℕ) × IsPutNext was_cut is_cut text' text'' put × Step takes quiet now line next (Some []) (Some put) out out'
         → held' ≡ record held { bytes = after_first is_line_feed held.bytes } → ThroughSoFar takes quiet old next source source' held' out' is_cut text text''
     through_line {is_cut = is_cut} {text'' = text''} unlast put advanced = record {
       said = f.said ++ put.0;

@@ -121,7 +121,7 @@ EndsBetween (feeding.Stopped why) source source' done = ⊥
 
 -- the lines of a source, read in pieces of at most so many bytes, were taken by a machine and what they add written, up to where
 -- it ended
-pub record Fed {M F : Type 0} (takes : M → List ℕ → M → Result (List ℕ) F → Type 0) (ends : M → M → Result (List ℕ) F → Type 0) (quiet : M → M → Type 0) (piece : ℕ) (how : Feeding F) (old new : M) (source source' text text' : Option (List ℕ)) : Type 0 where
+pub record HasFed {M F : Type 0} (takes : M → List ℕ → M → Result (List ℕ) F → Type 0) (ends : M → M → Result (List ℕ) F → Type 0) (quiet : M → M → Type 0) (piece : ℕ) (how : Feeding F) (old new : M) (source source' text text' : Option (List ℕ)) : Type 0 where
   pub done : List (List ℕ)
   pub mid : M
   pub said : List ℕ

@@ -1,7 +1,7 @@
 -- The effect of the lines of an input on a machine, and what a sink takes of that which can't end it.
 use Rattle.std.specs.Prelude.{ℕ, List, ◌≡◌, ◌++◌, [], Result, Ok, Option, None, Bool, true, false}
 use Rattle.jf_io.specs.Sink.{IsCutShort}
-use Rattle.jf_input.specs.Feeds.{Appends, Fed}
+use Rattle.jf_input.specs.Feeds.{Appends, HasFed}
 use Rattle.jf_input.specs.declared.feeding.Feeding.{Feeding}
 use Rattle.jf_input.specs.declared.feeding.Feeding.TheVariants as feeding
 
@@ -25,7 +25,7 @@ AddsAtEnd ends (feeding.Stopped why) old new text = text ≡ []
 
 -- the lines of a source were taken as over a sink of which nothing is known, and what they and the end add was put through
 pub record GoesThrough {M F : Type 0} (takes : M → List ℕ → M → Result (List ℕ) F → Type 0) (ends : M → M → Result (List ℕ) F → Type 0) (quiet : M → M → Type 0) (piece : ℕ) (how : Feeding F) (is_cut : Bool) (old new : M) (source source' text text' : Option (List ℕ)) : Type 0 where
-  pub fed : Fed takes ends quiet piece how old new source source' None None
+  pub fed : HasFed takes ends quiet piece how old new source source' None None
   pub last : List ℕ
   pub at_end : AddsAtEnd ends how fed.mid new last
   pub written : IsPutThrough is_cut text text' (fed.said ++ last)

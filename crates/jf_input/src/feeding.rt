@@ -5,7 +5,7 @@ ghost use Rattle.jf_path.specs.Faults.{HasCause};
 ghost use Rattle.jf_io.specs.declared.piece.TheConstants.{MAX_PIECE};
 ghost use Rattle.jf_io.specs.LineReader.{is_line_feed, IsShortened, IsFetched};
 ghost use Rattle.jf_io.specs.Sink.{IsCutShort};
-ghost use Rattle.jf_input.specs.Feeds.{front_of_line, max_gathered, IsQuietLine, Appends, HandsOn, Gathers, StopsGathering, EndsAfter, Fed};
+ghost use Rattle.jf_input.specs.Feeds.{front_of_line, max_gathered, IsQuietLine, Appends, HandsOn, Gathers, StopsGathering, EndsAfter, HasFed};
 
 use crate::machine::{AtHand, LineMachine};
 use jf_io::{FetchFault, IoFailed, LineReader, Sink, Source, put_all};
@@ -48,7 +48,7 @@ pub fn feed<M: LineMachine, S: Source, K: Sink>(
 ) -> Feeding<M::Stop>
     requires ready { M.ready machine.old }
     requires piece { (1 ≤ piece) × (piece ≤ MAX_PIECE) }
-    ensures fed { Fed M.takes M.ends M.quiet piece result machine.old machine.new (S.rest source.old) (S.rest source.new) (K.text sink.old) (K.text sink.new) }
+    ensures fed { HasFed M.takes M.ends M.quiet piece result machine.old machine.new (S.rest source.old) (S.rest source.new) (K.text sink.old) (K.text sink.new) }
     ensures read { result ≡ Feeding.ReadFault → HasCause (S.faults source.old) (S.faults source.new) }
     ensures write { result ≡ Feeding.WriteFault → HasCause (K.faults sink.old) (K.faults sink.new) }
     ensures source_counts { S.faults source.old ≤ S.faults source.new }

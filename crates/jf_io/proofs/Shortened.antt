@@ -3,7 +3,7 @@ use Rattle.std.proofs.Common.{ℕ, ◌≤◌, Bool, not, List, length, ◌≡◌
 use Rattle.std.proofs.lemmas.List.{take-append-drop, drop-take, take-append-le, take-take}
 use Rattle.std.proofs.lemmas.List.Sums.{prefix_len-le-length}
 use Rattle.std.specs.List.{position_or_len, after_first, before_first}
-use Rattle.jf_io.specs.LineReader.{is_line_feed, IsSearched, IsShortened, IsFetched, Held}
+use Rattle.jf_io.specs.LineReader.{is_line_feed, IsSearched, IsShortened, IsFetched, ReaderState}
 
 place_le : (p : ℕ → Bool) (xs : List ℕ) → position_or_len p xs ≤ length xs
 place_le p xs = prefix_len-le-length (λ x. not (p x)) xs
@@ -192,18 +192,18 @@ is_fetched-more limit text held held' before mid after f plain front kept =
     }
 
 -- one more piece in the steps of a reader: it finds no line, shortens what it holds, and takes a piece
-pub is_fetched-step : (limit : ℕ) (text : List ℕ) (held found short new : Held) (before mid after : Option (List ℕ)) → IsFetched limit text held.bytes before mid → held.limit ≡ limit
+pub is_fetched-step : (limit : ℕ) (text : List ℕ) (held found short new : ReaderState) (before mid after : Option (List ℕ)) → IsFetched limit text held.bytes before mid → held.limit ≡ limit
     → found ≡ held → position_or_len is_line_feed found.bytes ≡ length found.bytes → short ≡ record found { bytes = take (found.limit + 1) found.bytes }
     → take (length short.bytes) new.bytes ≡ short.bytes → ((rest : List ℕ) → mid ≡ Some rest → (left : List ℕ) × (after ≡ Some left) × (new.bytes ++ left ≡ short.bytes ++ rest))
     → IsFetched limit text new.bytes before after
 is_fetched-step limit text held found short new before mid after f most same plain cut front kept =
     let e : short.bytes ≡ take (limit + 1) held.bytes =
-    ap (λ (h : Held). h.bytes) cut ∙ ap (λ (h : Held). take (h.limit + 1) h.bytes) same ∙ ap (λ n. take (n + 1) held.bytes) most in
-    is_fetched-more limit text held.bytes new.bytes before mid after f (subst (λ (h : Held). position_or_len is_line_feed h.bytes ≡ length h.bytes) same plain)
+    ap (λ (h : ReaderState). h.bytes) cut ∙ ap (λ (h : ReaderState). take (h.limit + 1) h.bytes) same ∙ ap (λ n. take (n + 1) held.bytes) most in
+    is_fetched-more limit text held.bytes new.bytes before mid after f (subst (λ (h : ReaderState). position_or_len is_line_feed h.bytes ≡ length h.bytes) same plain)
     (subst (λ (b : List ℕ). take (length b) new.bytes ≡ b) e front) (λ rest told. let k = kept rest told in (k.0, k.1, k.2 ∙ ap (λ b. b ++ rest) e))
 
 -- bytes without a line feed have none after they are shortened
-pub short_is_plain : (found short new : Held) → position_or_len is_line_feed found.bytes ≡ length found.bytes → short ≡ record found { bytes = take (found.limit + 1) found.bytes } → new ≡ short
+pub short_is_plain : (found short new : ReaderState) → position_or_len is_line_feed found.bytes ≡ length found.bytes → short ≡ record found { bytes = take (found.limit + 1) found.bytes } → new ≡ short
     → position_or_len is_line_feed new.bytes ≡ length new.bytes
 short_is_plain found short new plain cut same =
-    subst (λ (h : Held). position_or_len is_line_feed h.bytes ≡ length h.bytes) (sym (same ∙ cut)) (take_plain (found.limit + 1) found.bytes plain)
+    subst (λ (h : ReaderState). position_or_len is_line_feed h.bytes ≡ length h.bytes) (sym (same ∙ cut)) (take_plain (found.limit + 1) found.bytes plain)

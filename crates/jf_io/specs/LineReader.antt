@@ -18,7 +18,7 @@ pub record HoldsFew (bytes : List ℕ) (start limit piece : ℕ) : Type 0 where
   pub few : length (after_first is_line_feed (drop start bytes)) < piece
 
 -- what a reader holds: `bytes`, the most bytes of a line that is held whole, and the most bytes of a piece of input
-pub record Held : Type 0 where
+pub record ReaderState : Type 0 where
   pub limit : ℕ
   pub piece : ℕ
   pub bytes : List ℕ

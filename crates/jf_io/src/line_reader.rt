@@ -33,9 +33,9 @@ pub struct LineReader {
 impl Model for LineReader {
     ghost use Rattle.std.specs.Prelude.{◌≤◌, drop};
     ghost use Rattle.jf_io.specs.declared.piece.TheConstants.{MAX_PIECE};
-    ghost use Rattle.jf_io.specs.LineReader.{Held, IsSearched, HoldsFew};
+    ghost use Rattle.jf_io.specs.LineReader.{ReaderState, IsSearched, HoldsFew};
 
-    ghost Value = { Held };
+    ghost Value = { ReaderState };
 
     ghost view = { λ r. record { limit = r.limit; piece = r.piece; bytes = drop r.start r.bytes.items } };
 

@@ -5,7 +5,7 @@ use Rattle.std.proofs.lemmas.Bool.Decides.{nat_tests}
 use Rattle.std.specs.List.{onto_first}
 use Rattle.jf_io.specs.Lines.{lines}
 use Rattle.jf_text.specs.Words.{is_long, words}
-use Rattle.jf_blocks.specs.Reading.{Block, Place, Read, gives, and_then, one_line_read, line_by, lines_by, named_of, claim_of, leaf_line_of, side_of, first_line_of, proof_block}
+use Rattle.jf_blocks.specs.Reading.{Block, LinePlace, ReadResult, gives, and_then, one_line_read, line_by, lines_by, named_of, claim_of, leaf_line_of, side_of, first_line_of, proof_block}
 use Rattle.jf_blocks.specs.declared.first.FirstLine.{FirstLine}
 use Rattle.jf_blocks.specs.declared.first.FirstLine.TheVariants as first
 use Rattle.jf_ask.specs.Lookups.{siblings_in, siblings_of, block_alone, block_of, lookup_in, lookup}
@@ -30,15 +30,15 @@ lines-bytes (b ∷ bytes) = omega (arith, byte-more (b == 10) b (length bytes) (
 
 -- ---- readings
 -- what was read has at most n bytes
-abbrev Takes : {X : Type 0} → ℕ → List (List ℕ) → Read X → Type 0
+abbrev Takes : {X : Type 0} → ℕ → List (List ℕ) → ReadResult X → Type 0
 Takes n ls (Ok r) = bytes_of ls ≤ n + bytes_of r.1.left
 Takes n ls (Err at) = Unit {0}
 
-further : {X : Type 0} (m n : ℕ) (ls ks : List (List ℕ)) (r : Read X) → bytes_of ls ≤ m + bytes_of ks → Takes n ks r → Takes (m + n) ls r
+further : {X : Type 0} (m n : ℕ) (ls ks : List (List ℕ)) (r : ReadResult X) → bytes_of ls ≤ m + bytes_of ks → Takes n ks r → Takes (m + n) ls r
 further m n ls ks (Ok r) less h = omega arith
 further m n ls ks (Err at) less h = tt
 
-and_then-takes : {X Y : Type 0} (m n : ℕ) (ls : List (List ℕ)) (r : Read X) (f : X → Place → Read Y) → Takes m ls r → ((x : X) (q : Place) → Takes n q.left (f x q)) → Takes (m + n) ls (and_then r f)
+and_then-takes : {X Y : Type 0} (m n : ℕ) (ls : List (List ℕ)) (r : ReadResult X) (f : X → LinePlace → ReadResult Y) → Takes m ls r → ((x : X) (q : LinePlace) → Takes n q.left (f x q)) → Takes (m + n) ls (and_then r f)
 and_then-takes m n ls (Ok r) f h more = further m n ls r.1.left (f r.0 r.1) h (more r.0 r.1)
 and_then-takes m n ls (Err at) f h more = tt
 
@@ -54,24 +54,24 @@ line_by-takes_at : {X : Type 0} (f : List (List ℕ) → Option X) (at : ℕ) (l
 line_by-takes_at f at [] = tt
 line_by-takes_at f at (line ∷ ls) = matched-takes at line ls (is_long line) (f (words line)) (short line)
 
-line_by-takes : {X : Type 0} (f : List (List ℕ) → Option X) (p : Place) → Takes 8501 p.left (line_by f p)
+line_by-takes : {X : Type 0} (f : List (List ℕ) → Option X) (p : LinePlace) → Takes 8501 p.left (line_by f p)
 line_by-takes f p = line_by-takes_at f p.at p.left
 
-same-takes : {X : Type 0} (x : X) (p : Place) → Takes 0 p.left (gives x p)
+same-takes : {X : Type 0} (x : X) (p : LinePlace) → Takes 0 p.left (gives x p)
 same-takes x p = omega arith
 
-sum-takes : {X : Type 0} (m n : ℕ) (ls : List (List ℕ)) (r : Read X) → m ≡ n → Takes m ls r → Takes n ls r
+sum-takes : {X : Type 0} (m n : ℕ) (ls : List (List ℕ)) (r : ReadResult X) → m ≡ n → Takes m ls r → Takes n ls r
 sum-takes m n ls (Ok r) e h = omega arith
 sum-takes m n ls (Err at) e h = tt
 
-lines_by-takes : {X : Type 0} (f : List (List ℕ) → Option X) (n : ℕ) (p : Place) → Takes (n * 8501) p.left (lines_by f n p)
+lines_by-takes : {X : Type 0} (f : List (List ℕ) → Option X) (n : ℕ) (p : LinePlace) → Takes (n * 8501) p.left (lines_by f n p)
 unfolding lines_by
 lines_by-takes f zero p = omega arith
 lines_by-takes f (suc n) p =
     sum-takes (8501 + (n * 8501 + 0)) (suc n * 8501) p.left _ (omega arith)
     (and_then-takes 8501 (n * 8501 + 0) p.left (line_by f p) _ (line_by-takes f p) (λ x q. and_then-takes (n * 8501) 0 q.left (lines_by f n q) _ (lines_by-takes f n q) (λ xs r. same-takes (x ∷ xs) r)))
 
-proof_block-takes : (n : ℕ) (p : Place) → Takes (8501 + (8501 + (8501 + (n * 8501 + 0)))) p.left (proof_block n p)
+proof_block-takes : (n : ℕ) (p : LinePlace) → Takes (8501 + (8501 + (8501 + (n * 8501 + 0)))) p.left (proof_block n p)
 unfolding proof_block
 proof_block-takes n p =
     and_then-takes 8501 (8501 + (8501 + (n * 8501 + 0))) p.left (line_by named_of p) _ (line_by-takes named_of p) (λ name q.
@@ -84,7 +84,7 @@ alone-left : (b : Block) (left : List (List ℕ)) (w n : ℕ) → w ≤ n + byte
 alone-left b [] w n h = omega arith
 alone-left b (line ∷ rest) w n h = tt
 
-alone-takes : (n : ℕ) (ls : List (List ℕ)) (r : Read Block) → Takes n ls r → IfSome (block_alone r) (λ b. bytes_of ls ≤ n)
+alone-takes : (n : ℕ) (ls : List (List ℕ)) (r : ReadResult Block) → Takes n ls r → IfSome (block_alone r) (λ b. bytes_of ls ≤ n)
 alone-takes n ls (Ok r) h = alone-left r.0 r.1.left (bytes_of ls) n h
 alone-takes n ls (Err at) h = tt
 

@@ -3,7 +3,7 @@ use Rattle.std.proofs.Common.{◌≡◌, ℕ, zero, suc, ◌+◌, ◌≤◌, con
 use Rattle.jf_path.proofs.NumberLaws.{some_left, none_left, one_less}
 use Rattle.jf_hash.specs.Maps.{Batch}
 use Rattle.jf_model.specs.Puts.{Change}
-use Rattle.jf_blocks.specs.Reading.{Read, Place, and_then, gives, one_line_read, line_read}
+use Rattle.jf_blocks.specs.Reading.{ReadResult, LinePlace, and_then, gives, one_line_read, line_read}
 use Rattle.jf_lead.specs.declared.block.LandingBlock.{LandingBlock}
 use Rattle.jf_lead.specs.declared.head.LandingHead.{LandingHead}
 use Rattle.jf_lead.specs.declared.stage.Begun.{Begun}
@@ -47,7 +47,7 @@ refused_stays at i [] = refl
 refused_stays at i (line ∷ ls) = refused_stays at i ls
 
 -- the result of a block that begins at a line, read or not, with the lines after it
-abbrev pub answered : ℕ → Read LandingBlock → LandingBlocks
+abbrev pub answered : ℕ → ReadResult LandingBlock → LandingBlocks
 answered first (Ok b) = with_block (first, b.0) (blocks_at b.1.at stage.Between b.1.left)
 answered first (Err at) = record { whole = []; bad = Some at }
 
@@ -58,7 +58,7 @@ module _ (first version : ℕ) (root : List ℕ) where
   part n b = record { first = first; version = version; root = root; changes_left = n; batch = b }
 
   -- the block with this batch
-  abbrev block_with : Batch → Place → Read LandingBlock
+  abbrev block_with : Batch → LinePlace → ReadResult LandingBlock
   block_with b q = gives (record { version = version; root = root; batch = b }) q
 
   change_read : (m : ℕ) (b : Batch) (at : ℕ) (ls : List (List ℕ)) (o : Option Change)
@@ -90,7 +90,7 @@ block_read at line ls = blocks_at-line at stage.Between line ls ∙ head_read at
 
 -- ---- all lines
 module _ (n : ℕ) (others : (at : ℕ) (left : List (List ℕ)) → length left ≤ n → blocks_from n (record { at = at; left = left }) ≡ blocks_at at stage.Between left) where
-  block_taken : (at : ℕ) (line : List ℕ) (ls : List (List ℕ)) (o : Read LandingBlock) → Bounded (record { at = at + 1; left = ls }) o → length ls ≤ n
+  block_taken : (at : ℕ) (line : List ℕ) (ls : List (List ℕ)) (o : ReadResult LandingBlock) → Bounded (record { at = at + 1; left = ls }) o → length ls ≤ n
       → elim o as (λ x. LandingBlocks) [ Err i ↦ record { whole = []; bad = Some i } | Ok b ↦ with_block (at, b.0) (blocks_from n b.1) ] ≡ answered at o
   block_taken at line ls (Err i) h few = refl
   block_taken at line ls (Ok b) h few = let less = h.1 in ap (with_block (at, b.0)) (others b.1.at b.1.left (omega arith))

@@ -15,7 +15,7 @@ use Rattle.jf_split.proofs.BatchLaws.{IsBatch-none, IsBatch-put}
 use Rattle.jf_text.specs.Words.{words, is_long, both, digits_value, number, number_upto, unhex, bytes_within, hash_of, value_of}
 use Rattle.jf_text.proofs.HexBytes.{unhex-IsBytes}
 use Rattle.jf_blocks.specs.Laws.{IsHash}
-use Rattle.jf_blocks.specs.Reading.{word_after, two_after, three_after, keyed_of, Place, Read, and_then, one_line_read, line_read, line_by}
+use Rattle.jf_blocks.specs.Reading.{word_after, two_after, three_after, keyed_of, LinePlace, ReadResult, and_then, one_line_read, line_read, line_by}
 use Rattle.jf_lead.specs.declared.block.LandingBlock.{LandingBlock}
 use Rattle.jf_lead.specs.declared.head.LandingHead.{LandingHead}
 use Rattle.jf_lead.specs.Reading.{LandingBlocks, with_block, landing_head_of, landing_line_of, put_line_of, del_line_of, change_line_of, is_above, change_after, changes_after, landing_body, landing_block, blocks_from}
@@ -133,10 +133,10 @@ IfOk-line_by_at : {X : Type 0} (P : X → Type 0) (f : List (List ℕ) → Optio
 IfOk-line_by_at P f at [] more = tt
 IfOk-line_by_at P f at (line ∷ ls) more = IfOk-matched P at ls (line_read f line) (IfSome-line_read P f line more)
 
-IfOk-line_by : {X : Type 0} (P : X → Type 0) (f : List (List ℕ) → Option X) (p : Place) → ((ws : List (List ℕ)) → IfSome (f ws) P) → IfOk (line_by f p) (λ r. P r.0)
+IfOk-line_by : {X : Type 0} (P : X → Type 0) (f : List (List ℕ) → Option X) (p : LinePlace) → ((ws : List (List ℕ)) → IfSome (f ws) P) → IfOk (line_by f p) (λ r. P r.0)
 IfOk-line_by P f p more = IfOk-line_by_at P f p.at p.left more
 
-IfOk-and_then : {X Y : Type 0} (P : X → Type 0) (Q : Y → Type 0) (r : Read X) (f : X → Place → Read Y) → IfOk r (λ p. P p.0) → ((x : X) (q : Place) → P x → IfOk (f x q) (λ p. Q p.0)) → IfOk (and_then r f) (λ p. Q p.0)
+IfOk-and_then : {X Y : Type 0} (P : X → Type 0) (Q : Y → Type 0) (r : ReadResult X) (f : X → LinePlace → ReadResult Y) → IfOk r (λ p. P p.0) → ((x : X) (q : LinePlace) → P x → IfOk (f x q) (λ p. Q p.0)) → IfOk (and_then r f) (λ p. Q p.0)
 IfOk-and_then P Q (Ok p) f h more = more p.0 p.1 h
 IfOk-and_then P Q (Err at) f h more = tt
 
@@ -156,7 +156,7 @@ IsPart-push b c n part is above =
       long = omega (arith, length-append b (c ∷ []));
     }
 
-changes_after-sound : (n m : ℕ) (b : Batch) (p : Place) → IsPart b m → IfOk (changes_after b n p) (λ r. IsPart r.0 (m + n))
+changes_after-sound : (n m : ℕ) (b : Batch) (p : LinePlace) → IsPart b m → IfOk (changes_after b n p) (λ r. IsPart r.0 (m + n))
 unfolding changes_after
 changes_after-sound zero m b p part = let e : m ≡ m + 0 = omega arith in subst (IsPart b) e part
 changes_after-sound (suc n) m b p part =
@@ -167,17 +167,17 @@ changes_after-sound (suc n) m b p part =
 none : IsPart [] 0
 none = record { batch = IsBatch-none; values = tt; long = refl }
 
-landing_body-sound : (head : LandingHead) (p : Place) → IsHead head → IfOk (landing_body head p) (λ r. IsLandingBlock r.0)
+landing_body-sound : (head : LandingHead) (p : LinePlace) → IsHead head → IfOk (landing_body head p) (λ r. IsLandingBlock r.0)
 landing_body-sound head p is =
     IfOk-and_then (λ b. IsPart b (0 + head.changes)) IsLandingBlock (changes_after [] head.changes p) _ (changes_after-sound head.changes 0 [] p none) (λ b q part.
     let long = part.long in let count = is.2 in
     record { version = is.0; root = is.1; batch = part.batch; limits = record { keys = omega arith; values = part.values } })
 
-landing_block-sound : (p : Place) → IfOk (landing_block p) (λ r. IsLandingBlock r.0)
+landing_block-sound : (p : LinePlace) → IfOk (landing_block p) (λ r. IsLandingBlock r.0)
 landing_block-sound p = IfOk-and_then IsHead IsLandingBlock (line_by landing_line_of p) landing_body (IfOk-line_by IsHead landing_line_of p landing_line_of-sound) landing_body-sound
 
 -- ---- all lines
-block_taken : (n at : ℕ) (o : Read LandingBlock) → ((p : Place) → AllByRecursion (λ (b : ℕ × LandingBlock). IsLandingBlock b.1) (blocks_from n p).whole) → IfOk o (λ r. IsLandingBlock r.0)
+block_taken : (n at : ℕ) (o : ReadResult LandingBlock) → ((p : LinePlace) → AllByRecursion (λ (b : ℕ × LandingBlock). IsLandingBlock b.1) (blocks_from n p).whole) → IfOk o (λ r. IsLandingBlock r.0)
     → AllByRecursion (λ (b : ℕ × LandingBlock). IsLandingBlock b.1) (elim o as (λ x. LandingBlocks) [ Err i ↦ record { whole = []; bad = Some i } | Ok b ↦ with_block (at, b.0) (blocks_from n b.1) ]).whole
 block_taken n at (Err i) others h = tt
 block_taken n at (Ok b) others h = (h, others b.1)
@@ -187,7 +187,7 @@ unfolding blocks_from
 blocks_from-sound zero at left = tt
 blocks_from-sound (suc n) at [] = tt
 blocks_from-sound (suc n) at (line ∷ ls) =
-    let p : Place = record { at = at; left = line ∷ ls } in block_taken n at (landing_block p) (λ q. blocks_from-sound n q.at q.left) (landing_block-sound p)
+    let p : LinePlace = record { at = at; left = line ∷ ls } in block_taken n at (landing_block p) (λ q. blocks_from-sound n q.at q.left) (landing_block-sound p)
 
 pub landing_blocks-sound : LandingBlocksAreSound
 landing_blocks-sound ls = blocks_from-sound (length ls) 1 ls

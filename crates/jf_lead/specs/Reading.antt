@@ -6,7 +6,7 @@ use Rattle.jf_hash.specs.Maps.{Batch}
 use Rattle.jf_split.specs.Limits.{max_keys}
 use Rattle.jf_text.specs.Words.{number, number_upto, hash_of, both}
 use Rattle.jf_model.specs.Puts.{Change}
-use Rattle.jf_blocks.specs.Reading.{word_after, two_after, three_after, keyed_of, Place, Read, and_then, gives, line_by, first_place}
+use Rattle.jf_blocks.specs.Reading.{word_after, two_after, three_after, keyed_of, LinePlace, ReadResult, and_then, gives, line_by, first_place}
 use Rattle.jf_lead.specs.declared.block.LandingBlock.{LandingBlock}
 use Rattle.jf_lead.specs.declared.head.LandingHead.{LandingHead}
 
@@ -41,16 +41,16 @@ change_after batch ws = option_and_then (λ (c : Change). if is_above c.0 batch 
 
 -- ---- blocks
 -- a batch and n changes more, each on a line of its own with a key above the one before
-unfoldable pub changes_after : Batch → ℕ → Place → Read Batch
+unfoldable pub changes_after : Batch → ℕ → LinePlace → ReadResult Batch
 changes_after batch zero p = gives batch p
 changes_after batch (suc n) p = and_then (line_by (change_after batch) p) (λ c q. changes_after (batch ++ c ∷ []) n q)
 
 -- a block after its first line
-abbrev pub landing_body : LandingHead → Place → Read LandingBlock
+abbrev pub landing_body : LandingHead → LinePlace → ReadResult LandingBlock
 landing_body head p = and_then (changes_after [] head.changes p) (λ batch q. gives (record { version = head.version; root = head.root; batch = batch }) q)
 
 -- a block with its first line
-abbrev pub landing_block : Place → Read LandingBlock
+abbrev pub landing_block : LinePlace → ReadResult LandingBlock
 landing_block p = and_then (line_by landing_line_of p) landing_body
 
 -- the result of lines of blocks: the whole blocks, each with the number of its first line; and the number of the line after
@@ -64,7 +64,7 @@ abbrev pub with_block : ℕ × LandingBlock → LandingBlocks → LandingBlocks
 with_block b bs = record { whole = b ∷ bs.whole; bad = bs.bad }
 
 -- the result of the lines from a place on. n is at least the number of these lines
-unfoldable pub blocks_from : ℕ → Place → LandingBlocks
+unfoldable pub blocks_from : ℕ → LinePlace → LandingBlocks
 blocks_from zero p = record { whole = []; bad = None }
 blocks_from (suc n) p =
     elim p.left [

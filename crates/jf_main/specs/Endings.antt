@@ -9,8 +9,8 @@ use Rattle.jf_folder.specs.declared.file.FileRefused.TheVariants as refused
 use Rattle.jf_run.specs.declared.status.Status.{Status}
 use Rattle.jf_run.specs.declared.status.Status.TheVariants as status
 use Rattle.jf_run.specs.Statuses.{is_disk_fault}
-use Rattle.jf_main.specs.declared.note.Note.{Note}
-use Rattle.jf_main.specs.declared.note.Note.TheVariants as note
+use Rattle.jf_main.specs.declared.note.CallNote.{CallNote}
+use Rattle.jf_main.specs.declared.note.CallNote.TheVariants as note
 
 -- the status if the disk couldn't be opened
 abbrev pub refusal_status : FileRefused → Status
@@ -28,6 +28,6 @@ abbrev pub disk_cause : Status → AnyDisk → Option FaultCause
 disk_cause s disk = if is_disk_fault s then Some (unwrap_or (any_cause disk) cause.NoRoom) else None
 
 -- the note if no command line could be made of the arguments: an example, unless memory ran out
-abbrev pub unread_note : Status → Option Note
+abbrev pub unread_note : Status → Option CallNote
 unread_note status.Usage = Some note.Example
 unread_note s = None

@@ -5,7 +5,7 @@ ghost use Rattle.jf_run.specs.Statuses.{code_of};
 ghost use Rattle.jf_main.specs.Checks.{end_cause, end_status};
 ghost use Rattle.jf_main.specs.Endings.{refusal_cause, refusal_status, disk_cause, unread_note};
 
-use crate::note::Note;
+use crate::note::CallNote;
 use jf_folder::{AnyDisk, FaultCause, FileRefused};
 use jf_run::status::Status;
 use std::process::ExitCode;
@@ -15,7 +15,7 @@ use std::process::ExitCode;
 pub struct Ending {
     pub status: Status,
     pub cause: Option<FaultCause>,
-    pub note: Option<Note>,
+    pub note: Option<CallNote>,
 }
 
 impl Ending {
@@ -55,7 +55,7 @@ impl Ending {
             Status::Usage => Ending {
                 status: why,
                 cause: None,
-                note: Some(Note::Example),
+                note: Some(CallNote::Example),
             },
             _ => Ending::of_status(why),
         }
@@ -74,7 +74,7 @@ impl Ending {
     }
 
     /// The end after a call of the program that handed back this disk, with this note.
-    pub(crate) fn of_call(status: Status, disk: &AnyDisk, note: Option<Note>) -> Ending
+    pub(crate) fn of_call(status: Status, disk: &AnyDisk, note: Option<CallNote>) -> Ending
         ensures status { result.status ≡ status }
         ensures reason { result.cause ≡ disk_cause status disk.now }
         ensures note { result.note ≡ note }

@@ -5,7 +5,7 @@ ghost use Rattle.jf_main.specs.EndingTexts.{cause_lines, ending_text, note_lines
 
 use crate::ending::Ending;
 use crate::help::more_usage_text;
-use crate::note::Note;
+use crate::note::CallNote;
 use crate::status_line::StatusLine;
 use jf_run::status::Status;
 use std::fmt;
@@ -16,7 +16,7 @@ use std::fmt;
 pub struct EndingText {
     status: Status,
     cause: Option<&'static str>,
-    note: Option<Note>,
+    note: Option<CallNote>,
 }
 
 impl EndingText {
@@ -92,7 +92,7 @@ impl fmt::Display for CauseLine {
 
 // The line of a note.
 #[derive(Clone, Copy, Drop)]
-struct NoteLine(Option<Note>);
+struct NoteLine(Option<CallNote>);
 
 impl fmt::Display for NoteLine {
     ghost output = { λ l. Some (note_lines l.0) };

@@ -21,7 +21,7 @@ pub use command_line::CommandLine;
 pub use ending::Ending;
 pub use ending_text::EndingText;
 pub use help::{OwnText, more_usage_text, write_text};
-pub use note::Note;
+pub use note::CallNote;
 pub use place::disk_at;
 pub use program::run;
 pub use status_line::StatusLine;

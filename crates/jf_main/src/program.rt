@@ -10,7 +10,7 @@ use crate::command_line::CommandLine;
 use crate::ending::Ending;
 use crate::ending_text::EndingText;
 use crate::help::write_text;
-use crate::note::Note;
+use crate::note::CallNote;
 use crate::place::disk_at;
 use jf_folder::AnyDisk;
 use jf_io::{StdSink, StdSource};
@@ -140,7 +140,7 @@ fn run_over<R: Runtime + AllocGlobal + Threads + Wait + Sync>(
     );
     // The process ends now, and the system takes all of its memory at once.
     let _ = ManuallyDrop::new((entries, memory));
-    Ending::of_call(status, &disk, Note::after_call(words, start))
+    Ending::of_call(status, &disk, CallNote::after_call(words, start))
 }
 
 // Writes to standard error what there is to say of an end.

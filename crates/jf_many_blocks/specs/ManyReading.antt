@@ -1,7 +1,7 @@
 -- How a block of many claims is read (docs/FORMATS.md, Blocks of many claims).
 use Rattle.std.specs.Prelude.{ℕ, if◌then◌else◌, Bool, false, List, [], ◌∷◌, Option, Some, None, codes, option_and_then, option_map}
 use Rattle.jf_text.specs.Words.{is_word, hash_of, number_upto, name_of, both}
-use Rattle.jf_blocks.specs.Reading.{Place, Read, and_then, gives, lines_by, word_after, two_after, claim_of_word, pair_of}
+use Rattle.jf_blocks.specs.Reading.{LinePlace, ReadResult, and_then, gives, lines_by, word_after, two_after, claim_of_word, pair_of}
 use Rattle.jf_multi.specs.declared.item.Item.{Item}
 use Rattle.jf_multi.specs.declared.item.Item.TheVariants as item
 use Rattle.jf_many_blocks.specs.declared.head.ManyHead.{ManyHead}
@@ -59,5 +59,5 @@ abbrev pub ManyBlock : Type 0
 ManyBlock = List NamedClaim × List Item
 
 -- a block of many claims after its first line, which says how many claims and items follow
-unfoldable pub many_body : ManyHead → Place → Read ManyBlock
+unfoldable pub many_body : ManyHead → LinePlace → ReadResult ManyBlock
 many_body head p = and_then (lines_by named_claim_of head.claims p) (λ cs q. and_then (lines_by item_of head.items q) (λ is r. gives (cs, is) r))

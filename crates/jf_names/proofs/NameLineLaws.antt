@@ -7,7 +7,7 @@ use Rattle.jf_io.specs.Lines.{lines}
 use Rattle.jf_io.specs.declared.piece.TheConstants.{MAX_PIECE}
 use Rattle.jf_text.specs.Words.{name_of, is_long}
 use Rattle.jf_text.proofs.HexText.{bytes_within-many}
-use Rattle.jf_input.specs.Feeds.{front_of_line, Took, ReadsAll, ReadsFew, Fed}
+use Rattle.jf_input.specs.Feeds.{front_of_line, Took, ReadsAll, ReadsFew, HasFed}
 use Rattle.jf_input.specs.declared.feeding.Feeding.{Feeding}
 use Rattle.jf_input.specs.declared.feeding.Feeding.TheVariants as feeding
 use Rattle.jf_input.proofs.Given.{given_alike}
@@ -124,7 +124,7 @@ names_from-took_refused s next (l ∷ ls) text line behind took refused =
 -- ---- an input
 module _ (start last : NamesSoFar) (begun : start ≡ no_names) (source source' text text' : Option (List ℕ)) where
   abbrev Read : Feeding NamesFault → Type 0
-  Read how = Fed TakesName EndsNames (λ m n. Unit {0}) MAX_PIECE how start last source source' text text'
+  Read how = HasFed TakesName EndsNames (λ m n. Unit {0}) MAX_PIECE how start last source source' text text'
 
   taken_first : (how : Feeding NamesFault) (f : Read how) → Took TakesName no_names f.done f.mid f.said
   taken_first how f = subst (λ (s : NamesSoFar). Took TakesName s f.done f.mid f.said) begun f.took

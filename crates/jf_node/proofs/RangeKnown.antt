@@ -17,8 +17,8 @@ use Rattle.jf_node.specs.LinkValue.{LinkValue}
 use Rattle.jf_node.specs.LinkFacts.{IsLink}
 use Rattle.jf_node.specs.Placed.{ArePlaces, IsPlaced, range_value}
 use Rattle.jf_node.specs.RangeValue.{RangeValue}
-use Rattle.jf_node.specs.declared.range.Place.{Place}
-use Rattle.jf_node.specs.declared.range.Place.TheVariants.{Nowhere, Leaf, Places}
+use Rattle.jf_node.specs.declared.range.RangePlace.{RangePlace}
+use Rattle.jf_node.specs.declared.range.RangePlace.TheVariants.{Nowhere, Leaf, Places}
 use Rattle.jf_node.proofs.RangePlaces.{in_few, placed_nowhere, kept_as, placed_leaf, placed}
 
 -- ---- the bits of keys in a range of places
@@ -143,14 +143,14 @@ several_known depth x start level p link =
     }
 
 -- what holds of a range without an entry, of a leaf's, and of one over places
-pub known_nowhere : (v : RangeValue) (depth : ℕ) (place : Place) → range_value depth place ≡ v → IsPlaced depth place → place ≡ Nowhere → IsRangeValue v
+pub known_nowhere : (v : RangeValue) (depth : ℕ) (place : RangePlace) → range_value depth place ≡ v → IsPlaced depth place → place ≡ Nowhere → IsRangeValue v
 known_nowhere v depth place seen h is = subst IsRangeValue (sym (kept_as v depth place Nowhere seen is)) (none_known depth (placed_nowhere depth place h is))
 
-pub known_leaf : (v : RangeValue) (depth : ℕ) (place : Place) (link : Bor LinkValue) → range_value depth place ≡ v → IsPlaced depth place → place ≡ Leaf link → IsLink link.now → IsRangeValue v
+pub known_leaf : (v : RangeValue) (depth : ℕ) (place : RangePlace) (link : Bor LinkValue) → range_value depth place ≡ v → IsPlaced depth place → place ≡ Leaf link → IsLink link.now → IsRangeValue v
 known_leaf v depth place link seen h is known =
     let one = placed_leaf depth place link h is in
     subst IsRangeValue (sym (kept_as v depth place (Leaf link) seen is)) (one_known depth link.now one.0 one.1 known)
 
-pub known_places : (v : RangeValue) (depth start level : ℕ) (place : Place) (link : Bor LinkValue) → range_value depth place ≡ v → IsPlaced depth place → place ≡ Places link start level → IsLink link.now → IsRangeValue v
+pub known_places : (v : RangeValue) (depth start level : ℕ) (place : RangePlace) (link : Bor LinkValue) → range_value depth place ≡ v → IsPlaced depth place → place ≡ Places link start level → IsLink link.now → IsRangeValue v
 known_places v depth start level place link seen h is known =
     subst IsRangeValue (sym (kept_as v depth place (Places link start level) seen is)) (several_known depth link.now start level (placed depth place link start level h is) known)

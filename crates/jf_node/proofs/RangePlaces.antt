@@ -24,8 +24,8 @@ use Rattle.jf_node.specs.Children.{content, entries_of_children}
 use Rattle.jf_node.specs.Shown.{ShowsInner}
 use Rattle.jf_node.specs.RangeStates.{IsFound}
 use Rattle.jf_node.specs.declared.found.Found.{Found}
-use Rattle.jf_node.specs.declared.range.Place.{Place}
-use Rattle.jf_node.specs.declared.range.Place.TheVariants.{Places, Leaf, Nowhere}
+use Rattle.jf_node.specs.declared.range.RangePlace.{RangePlace}
+use Rattle.jf_node.specs.declared.range.RangePlace.TheVariants.{Places, Leaf, Nowhere}
 use Rattle.jf_node.proofs.InRanges.{one_place, in_range-joined}
 use Rattle.jf_node.proofs.ChildLaws.{child_depth}
 use Rattle.jf_node.proofs.PlaceLaws.{one_wide}
@@ -147,21 +147,21 @@ find-in_range d start width key es =
 
 -- ---- how a range is kept
 -- what holds of a range over some places
-pub placed : (depth : ℕ) (place : Place) (link : Bor LinkValue) (start level : ℕ) → IsPlaced depth place → place ≡ Places link start level → ArePlaces depth link.now start level
+pub placed : (depth : ℕ) (place : RangePlace) (link : Bor LinkValue) (start level : ℕ) → IsPlaced depth place → place ≡ Places link start level → ArePlaces depth link.now start level
 placed depth place link start level h is = subst (IsPlaced depth) is h
 
-pub placed_leaf : (depth : ℕ) (place : Place) (link : Bor LinkValue) → IsPlaced depth place → place ≡ Leaf link → (depth ≤ 256) × (length link.now.entries ≡ 1)
+pub placed_leaf : (depth : ℕ) (place : RangePlace) (link : Bor LinkValue) → IsPlaced depth place → place ≡ Leaf link → (depth ≤ 256) × (length link.now.entries ≡ 1)
 placed_leaf depth place link h is = subst (IsPlaced depth) is h
 
-pub placed_nowhere : (depth : ℕ) (place : Place) → IsPlaced depth place → place ≡ Nowhere → depth ≤ 256
+pub placed_nowhere : (depth : ℕ) (place : RangePlace) → IsPlaced depth place → place ≡ Nowhere → depth ≤ 256
 placed_nowhere depth place h is = subst (IsPlaced depth) is h
 
 -- a range has the value of the place at which it is kept
-pub kept_as : (v : RangeValue) (depth : ℕ) (place other : Place) → range_value depth place ≡ v → place ≡ other → v ≡ range_value depth other
+pub kept_as : (v : RangeValue) (depth : ℕ) (place other : RangePlace) → range_value depth place ≡ v → place ≡ other → v ≡ range_value depth other
 kept_as v depth place other seen is = sym seen ∙ ap (range_value depth) is
 
 -- a key is found at some places if its nibble lies there
-pub find_places : (v : RangeValue) (depth start level d n w : ℕ) (place : Place) (link : Bor LinkValue) (key : List ℕ) (b : Bool) → range_value depth place ≡ v → place ≡ Places link start level
+pub find_places : (v : RangeValue) (depth start level d n w : ℕ) (place : RangePlace) (link : Bor LinkValue) (key : List ℕ) (b : Bool) → range_value depth place ≡ v → place ≡ Places link start level
     → d ≡ link.now.depth → n ≡ nibble key d → w ≡ 2 ^ level → b ≡ lies_in start w n → find key_cmp key v.entries ≡ cond b (find key_cmp key link.now.entries) None
 find_places v depth start level d n w place link key b seen is deep nib wide test =
     ap (λ x. find key_cmp key x.entries) (kept_as v depth place _ seen is)
@@ -173,14 +173,14 @@ pub pred_is : (level : ℕ) → 1 ≤ level → level ≡ suc (level - 1)
 pred_is level h = omega arith
 
 -- the lower half of the places has the entries whose next bit is 0, and the upper half those where it is 1
-pub lower_is : (v : RangeValue) (depth start level : ℕ) (place : Place) (link : Bor LinkValue) → range_value depth place ≡ v → IsPlaced depth place → place ≡ Places link start level → among link.now start (level - 1) ≡ record { depth = v.depth + 1; entries = zeros v.depth v.entries }
+pub lower_is : (v : RangeValue) (depth start level : ℕ) (place : RangePlace) (link : Bor LinkValue) → range_value depth place ≡ v → IsPlaced depth place → place ≡ Places link start level → among link.now start (level - 1) ≡ record { depth = v.depth + 1; entries = zeros v.depth v.entries }
 lower_is v depth start level place link seen h is =
     let p = placed depth place link start level h is in
     let deep : 4 * link.now.depth + (4 - (level - 1)) ≡ depth + 1 = omega (arith, p.deep, p.wide, p.narrow) in
     ap₂ (λ k es. record { depth = k; entries = es }) deep (sym (lower_half depth link.now start level (level - 1) p (pred_is level p.wide)))
     ∙ ap (λ w. record { depth = w.depth + 1; entries = zeros w.depth w.entries }) (sym (kept_as v depth place _ seen is))
 
-pub upper_is : (v : RangeValue) (depth start level half : ℕ) (place : Place) (link : Bor LinkValue) → range_value depth place ≡ v → IsPlaced depth place → place ≡ Places link start level → half ≡ 2 ^ (level - 1) → among link.now (start + half) (level - 1) ≡ record { depth = v.depth + 1; entries = ones v.depth v.entries }
+pub upper_is : (v : RangeValue) (depth start level half : ℕ) (place : RangePlace) (link : Bor LinkValue) → range_value depth place ≡ v → IsPlaced depth place → place ≡ Places link start level → half ≡ 2 ^ (level - 1) → among link.now (start + half) (level - 1) ≡ record { depth = v.depth + 1; entries = ones v.depth v.entries }
 upper_is v depth start level half place link seen h is wide =
     let p = placed depth place link start level h is in
     let deep : 4 * link.now.depth + (4 - (level - 1)) ≡ depth + 1 = omega (arith, p.deep, p.wide, p.narrow) in
@@ -192,13 +192,13 @@ pub halves_of : (depth start level : ℕ) (x : LinkValue) → ArePlaces depth x 
 halves_of depth start level x p = halved (level - 1) start (omega (arith, p.narrow, p.wide)) p.within (subst (λ l. start % 2 ^ l ≡ 0) (pred_is level p.wide) p.aligned)
 
 -- the hash of the places is that of the node
-pub range_hash_is : (v : RangeValue) (depth start level width : ℕ) (place : Place) (link : Bor LinkValue) → range_value depth place ≡ v → IsPlaced depth place → place ≡ Places link start level → width ≡ 2 ^ level
+pub range_hash_is : (v : RangeValue) (depth start level width : ℕ) (place : RangePlace) (link : Bor LinkValue) → range_value depth place ≡ v → IsPlaced depth place → place ≡ Places link start level → width ≡ 2 ^ level
     → part_root (4 * link.now.depth + (4 - level)) (in_range link.now.depth start width link.now.entries) ≡ part_root v.depth v.entries
 range_hash_is v depth start level width place link seen h is wide =
     ap₂ (λ d w. part_root d (in_range link.now.depth start w link.now.entries)) (sym (placed depth place link start level h is).deep) wide
     ∙ ap (λ w. part_root w.depth w.entries) (sym (kept_as v depth place _ seen is))
 
-pub places_end : (depth start level width : ℕ) (place : Place) (link : Bor LinkValue) → IsPlaced depth place → place ≡ Places link start level → width ≡ 2 ^ level → start + width ≤ 16
+pub places_end : (depth start level width : ℕ) (place : RangePlace) (link : Bor LinkValue) → IsPlaced depth place → place ≡ Places link start level → width ≡ 2 ^ level → start + width ≤ 16
 places_end depth start level width place link h is wide =
     let p = placed depth place link start level h is in
     range_ends level start width p.narrow p.aligned p.within wide
@@ -212,7 +212,7 @@ pub some_fit : (x : LinkValue) (links : List (Option LinkValue)) (start width : 
 some_fit x links start width shows link = omega (arith, ap length (same_count x links start width shows), in_few x.depth start width x.entries, link.bounded)
 
 -- the children at some places have as many entries as the range
-pub count_is : (v : RangeValue) (depth start level width : ℕ) (place : Place) (link : Bor LinkValue) (links : List (Option LinkValue)) → range_value depth place ≡ v → place ≡ Places link start level → width ≡ 2 ^ level → ShowsInner link.now links
+pub count_is : (v : RangeValue) (depth start level width : ℕ) (place : RangePlace) (link : Bor LinkValue) (links : List (Option LinkValue)) → range_value depth place ≡ v → place ≡ Places link start level → width ≡ 2 ^ level → ShowsInner link.now links
     → length (entries_of_children (take width (drop start links))) ≡ length v.entries
 count_is v depth start level width place link links seen is wide shows =
     ap length (same_count link.now links start width shows) ∙ ap (λ w. length (in_range link.now.depth start w link.now.entries)) wide ∙ ap (λ w. length w.entries) (sym (kept_as v depth place _ seen is))

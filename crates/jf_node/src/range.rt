@@ -22,7 +22,7 @@ use std::marker::Model;
 // Where the entries of a range stand: nowhere, in a leaf, or, two or more, at 2^`level` places of an inner node from
 // place `start` on.
 #[derive(Clone, Copy)]
-pub(crate) enum Place<'a> {
+pub(crate) enum RangePlace<'a> {
     Nowhere,
     Leaf(&'a Link),
     Places {
@@ -32,18 +32,18 @@ pub(crate) enum Place<'a> {
     },
 }
 
-impl<'a> Place<'a> {
+impl<'a> RangePlace<'a> {
     // The same place, kept with its stored node.
     fn share(self) -> Result<SharedPlace, Memory>
         ensures { IfOk result (λ p. IsSharedAs p self.entry) }
     {
         match self {
-            Place::Nowhere => Ok(SharedPlace::Nowhere),
-            Place::Leaf(link) => {
+            RangePlace::Nowhere => Ok(SharedPlace::Nowhere),
+            RangePlace::Leaf(link) => {
                 let link = link.share()?;
                 Ok(SharedPlace::Leaf(link))
             }
-            Place::Places { link, start, level } => {
+            RangePlace::Places { link, start, level } => {
                 let link = link.share()?;
                 Ok(SharedPlace::Places { link, start, level })
             }
@@ -57,7 +57,7 @@ impl<'a> Place<'a> {
 #[derive(Drop)]
 pub struct Range<'a> {
     pub(crate) depth: u64,
-    pub(crate) place: Place<'a>,
+    pub(crate) place: RangePlace<'a>,
 }
 
 impl<'a> Model for Range<'a> {
@@ -111,7 +111,7 @@ impl<'a> Range<'a> {
     {
         Range {
             depth,
-            place: Place::Nowhere,
+            place: RangePlace::Nowhere,
         }
     }
 
@@ -123,7 +123,7 @@ impl<'a> Range<'a> {
     {
         Range {
             depth,
-            place: Place::Leaf(link),
+            place: RangePlace::Leaf(link),
         }
     }
 
@@ -134,7 +134,7 @@ impl<'a> Range<'a> {
     {
         Range {
             depth,
-            place: Place::Places { link, start, level },
+            place: RangePlace::Places { link, start, level },
         }
     }
 
@@ -187,9 +187,9 @@ impl<'a> Range<'a> {
         ensures { IsRangeValue self.now }
     {
         match self.place {
-            Place::Nowhere => {}
-            Place::Leaf(link) => link.know(),
-            Place::Places { link, .. } => link.know(),
+            RangePlace::Nowhere => {}
+            RangePlace::Leaf(link) => link.know(),
+            RangePlace::Places { link, .. } => link.know(),
         }
     }
 
@@ -209,8 +209,8 @@ impl<'a> Range<'a> {
         ensures depth { 2 ≤ length self.now.entries → self.now.depth < 256 }
     {
         match self.place {
-            Place::Nowhere => RangeState::Empty,
-            Place::Leaf(link) => match link.view() {
+            RangePlace::Nowhere => RangeState::Empty,
+            RangePlace::Leaf(link) => match link.view() {
                 Seen::Leaf {
                     key,
                     value,
@@ -222,7 +222,7 @@ impl<'a> Range<'a> {
                 },
                 Seen::Inner { .. } => unreachable!(),
             },
-            Place::Places { .. } => RangeState::More,
+            RangePlace::Places { .. } => RangeState::More,
         }
     }
 
@@ -232,9 +232,9 @@ impl<'a> Range<'a> {
         ensures { result ≡ part_root self.now.depth self.now.entries }
     {
         match self.place {
-            Place::Nowhere => jf_hash::empty(),
-            Place::Leaf(link) => link.hash(),
-            Place::Places { link, start, level } => link.range_hash(start, width(level)),
+            RangePlace::Nowhere => jf_hash::empty(),
+            RangePlace::Leaf(link) => link.hash(),
+            RangePlace::Places { link, start, level } => link.range_hash(start, width(level)),
         }
     }
 
@@ -246,15 +246,15 @@ impl<'a> Range<'a> {
         ensures { result ≡ record { depth = self.now.depth + 1; entries = zeros self.now.depth self.now.entries } }
     {
         match self.place {
-            Place::Nowhere => Range::empty(self.depth + 1),
-            Place::Leaf(link) => {
+            RangePlace::Nowhere => Range::empty(self.depth + 1),
+            RangePlace::Leaf(link) => {
                 if leaf_bit(link, self.depth) {
                     Range::empty(self.depth + 1)
                 } else {
                     Range::leaf(self.depth + 1, link)
                 }
             }
-            Place::Places { link, start, level } => Range::among(link, start, level - 1),
+            RangePlace::Places { link, start, level } => Range::among(link, start, level - 1),
         }
     }
 
@@ -266,15 +266,15 @@ impl<'a> Range<'a> {
         ensures { result ≡ record { depth = self.now.depth + 1; entries = ones self.now.depth self.now.entries } }
     {
         match self.place {
-            Place::Nowhere => Range::empty(self.depth + 1),
-            Place::Leaf(link) => {
+            RangePlace::Nowhere => Range::empty(self.depth + 1),
+            RangePlace::Leaf(link) => {
                 if leaf_bit(link, self.depth) {
                     Range::leaf(self.depth + 1, link)
                 } else {
                     Range::empty(self.depth + 1)
                 }
             }
-            Place::Places { link, start, level } => {
+            RangePlace::Places { link, start, level } => {
                 Range::among(link, start + width(level - 1), level - 1)
             }
         }
@@ -298,9 +298,9 @@ impl<'a> Range<'a> {
         ensures { result ≡ length self.now.entries }
     {
         match self.place {
-            Place::Nowhere => 0,
-            Place::Leaf(_) => 1,
-            Place::Places { link, start, level } => match link.view() {
+            RangePlace::Nowhere => 0,
+            RangePlace::Leaf(_) => 1,
+            RangePlace::Places { link, start, level } => match link.view() {
                 Seen::Leaf { .. } => unreachable!(),
                 Seen::Inner { children } => match children.count_among(start, width(level)) {
                     Some(count) => count,
@@ -328,9 +328,9 @@ impl<'a> Range<'a> {
         ensures { option_copied result ≡ find key_cmp key.now self.now.entries }
     {
         match self.place {
-            Place::Nowhere => None,
-            Place::Leaf(link) => link.get(key),
-            Place::Places { link, start, level } => {
+            RangePlace::Nowhere => None,
+            RangePlace::Leaf(link) => link.get(key),
+            RangePlace::Places { link, start, level } => {
                 let n = nibble(key, link.depth() as usize).get() as usize;
                 if lies_in(start, width(level), n) {
                     link.get(key)

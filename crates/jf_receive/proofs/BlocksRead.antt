@@ -5,7 +5,7 @@ use Rattle.jf_evidence.specs.Ranges.{Entries}
 use Rattle.jf_engine.specs.Engines.{Engine}
 use Rattle.jf_restore.specs.RestoreValue.{RestoreValue}
 use Rattle.jf_restore.specs.Finishes.{IsNewStore}
-use Rattle.jf_input.specs.Feeds.{Took, ReadsAll, ReadsFew, Fed}
+use Rattle.jf_input.specs.Feeds.{Took, ReadsAll, ReadsFew, HasFed}
 use Rattle.jf_input.specs.declared.feeding.Feeding.{Feeding}
 use Rattle.jf_input.specs.declared.feeding.Feeding.TheVariants as feeding
 use Rattle.jf_receive.specs.Chunks.{chunks, refusal_decided_by}
@@ -46,7 +46,7 @@ ended_err r why (Err w) e = let same : why ≡ w = cc in ap (λ x. Err x) (sym s
 module _ (version : ℕ) (root : List ℕ) (start last : Restoring) (begun : start ≡ first version root) (source source' text text' : Option (List ℕ)) where
   -- the lines of the source were fed to what reads blocks
   abbrev Read : Feeding BlockFault → Type 0
-  Read how = Fed TakesBlockLine EndsBlockLines (λ m n. Unit {0}) restore_piece how start last source source' text text'
+  Read how = HasFed TakesBlockLine EndsBlockLines (λ m n. Unit {0}) restore_piece how start last source source' text text'
 
   taken_first : (how : Feeding BlockFault) (f : Read how) → Took TakesBlockLine (first version root) f.done f.mid f.said
   taken_first how f = subst (λ (s : Restoring). Took TakesBlockLine s f.done f.mid f.said) begun f.took

@@ -2,11 +2,11 @@
 use Rattle.std.proofs.Common.{Result, ℕ, List, ◌≡◌, [], ◌∷◌, Err, refl, Ok, ◌+◌, Option, Some, None, ap, ap₂, ◌∙◌, suc, nat_lt, arith, ◌++◌, zero, ◌||◌, cond, sym, ◌≤◌, length}
 use Rattle.std.proofs.lemmas.List.{append_assoc, append-nil}
 use Rattle.jf_path.proofs.NumberLaws.{some_left, none_left, one_less}
-use Rattle.jf_evidence.specs.Ranges.{Entries, Entry, range_refusal}
+use Rattle.jf_evidence.specs.Ranges.{Entries, KeyAndValue, range_refusal}
 use Rattle.jf_evidence.specs.declared.range_proof.RangeFault.{RangeFault}
 use Rattle.jf_restore.specs.RestoreValue.{RestoreValue}
 use Rattle.jf_restore.specs.Restores.{with_more}
-use Rattle.jf_blocks.specs.Reading.{Read, Chunk, Place, and_then, one_line_read, line_read, line_by, gives, lines_by, side_of, entry_of, chunk_of, chunk_body, chunk_block}
+use Rattle.jf_blocks.specs.Reading.{ReadResult, Chunk, LinePlace, and_then, one_line_read, line_read, line_by, gives, lines_by, side_of, entry_of, chunk_of, chunk_body, chunk_block}
 use Rattle.jf_blocks.specs.Sides.{kept_sides}
 use Rattle.jf_blocks.proofs.Bounds.{Bounded, chunk_body-bounded}
 use Rattle.jf_blocks.proofs.SideLaws.{with_kept-kept_sides, range_refusal-kept_sides}
@@ -37,12 +37,12 @@ refused_stays r at why [] = refl
 refused_stays r at why (line ∷ ls) = refused_stays r at why ls
 
 -- the result of a block that begins at a line, read or not, with the lines after it
-abbrev restoring_answered : RestoreValue → ℕ → Read Chunk → Ended
+abbrev restoring_answered : RestoreValue → ℕ → ReadResult Chunk → Ended
 restoring_answered r first (Ok b) = restoring_goes (step_after_block r first b.0) b.1.at b.1.left
 restoring_answered r first (Err at) = Err (fault.Line at)
 
 -- ---- one line
-by_line : {X : Type 0} (f : List (List ℕ) → Option X) (more : X → Place → Read Chunk) (step : Option X → RestoringStep) (s : Stage) (r : RestoreValue) (first at : ℕ) (left : List (List ℕ))
+by_line : {X : Type 0} (f : List (List ℕ) → Option X) (more : X → LinePlace → ReadResult Chunk) (step : Option X → RestoringStep) (s : Stage) (r : RestoreValue) (first at : ℕ) (left : List (List ℕ))
     → restored_at_end (record { restore = r; at = at; stage = s }) ≡ Err (fault.Line at) → next_at at s ≡ at + 1 → ((line : List ℕ) → restoring_line_step r at s line ≡ step (line_read f line)) → step None ≡ refuses r (fault.Line at)
     → ((x : X) (ls : List (List ℕ)) → restoring_goes (step (Some x)) (at + 1) ls ≡ restoring_answered r first (more x (record { at = at + 1; left = ls })))
     → from r at s left ≡ restoring_answered r first (and_then (line_by f (record { at = at; left = left })) more)
@@ -62,15 +62,15 @@ module _ (r : RestoreValue) (first depth : ℕ) where
   part entries_left siblings_left es siblings = record { first = first; entries_left = entries_left; siblings_left = siblings_left; entries = es; proof = record { depth = depth; siblings = siblings } }
 
   -- the block of these entries, and of these siblings and more
-  abbrev with_sides : Entries → List (List ℕ) → List (List ℕ) → Place → Read Chunk
+  abbrev with_sides : Entries → List (List ℕ) → List (List ℕ) → LinePlace → ReadResult Chunk
   with_sides es siblings more p = gives (es, record { depth = depth; siblings = siblings ++ more }) p
 
-  one_side : (es : Entries) (siblings : List (List ℕ)) (h : List ℕ) (o : Read (List (List ℕ)))
+  one_side : (es : Entries) (siblings : List (List ℕ)) (h : List ℕ) (o : ReadResult (List (List ℕ)))
       → and_then o (with_sides es (siblings ++ h ∷ [])) ≡ and_then (and_then o (λ hs t. gives (h ∷ hs) t)) (with_sides es siblings)
   one_side es siblings h (Err at) = refl
   one_side es siblings h (Ok o) = ap (λ hs. Ok ((es, record { depth = depth; siblings = hs }), o.1)) (append_assoc siblings (h ∷ []) o.0)
 
-  side_and_more : (es : Entries) (siblings : List (List ℕ)) (m : ℕ) (o : Read (List ℕ))
+  side_and_more : (es : Entries) (siblings : List (List ℕ)) (m : ℕ) (o : ReadResult (List ℕ))
       → and_then o (λ h q. and_then (lines_by side_of m q) (with_sides es (siblings ++ h ∷ [])))
       ≡ and_then (and_then o (λ h q. and_then (lines_by side_of m q) (λ hs t. gives (h ∷ hs) t))) (with_sides es siblings)
   side_and_more es siblings m (Err at) = refl
@@ -99,15 +99,15 @@ module _ (r : RestoreValue) (first depth : ℕ) where
       ∙ ap (restoring_answered r first) (side_and_more es siblings m (line_by side_of (record { at = at; left = ls })))
 
   -- the block of these entries and more, and then so many siblings
-  abbrev with_entries_and : ℕ → Entries → Entries → Place → Read Chunk
+  abbrev with_entries_and : ℕ → Entries → Entries → LinePlace → ReadResult Chunk
   with_entries_and k es more p = and_then (lines_by side_of k p) (with_sides (es ++ more) [])
 
-  one_entry : (k : ℕ) (es : Entries) (e : Entry) (o : Read Entries)
+  one_entry : (k : ℕ) (es : Entries) (e : KeyAndValue) (o : ReadResult Entries)
       → and_then o (with_entries_and k (es ++ e ∷ [])) ≡ and_then (and_then o (λ fs t. gives (e ∷ fs) t)) (with_entries_and k es)
   one_entry k es e (Err at) = refl
   one_entry k es e (Ok o) = ap (λ fs. and_then (lines_by side_of k o.1) (with_sides fs [])) (append_assoc es (e ∷ []) o.0)
 
-  entry_and_more : (k : ℕ) (es : Entries) (m : ℕ) (o : Read Entry)
+  entry_and_more : (k : ℕ) (es : Entries) (m : ℕ) (o : ReadResult KeyAndValue)
       → and_then o (λ e q. and_then (lines_by entry_of m q) (with_entries_and k (es ++ e ∷ [])))
       ≡ and_then (and_then o (λ e q. and_then (lines_by entry_of m q) (λ fs t. gives (e ∷ fs) t))) (with_entries_and k es)
   entry_and_more k es m (Err at) = refl
@@ -137,13 +137,13 @@ block_read r at line ls =
 
 -- ---- all lines
 module _ (n : ℕ) (others : (r : RestoreValue) (at : ℕ) (left : List (List ℕ)) → length left ≤ n → with_entries r (chunks_from n r.root r.entries (record { at = at; left = left })) ≡ from r at stage.Between left) where
-  chunk_taken : (r : RestoreValue) (first : ℕ) (chunk : Chunk) (p : Place) (o : Option RangeFault) → range_refusal r.root r.entries chunk.0 chunk.1 ≡ o → length p.left ≤ n
+  chunk_taken : (r : RestoreValue) (first : ℕ) (chunk : Chunk) (p : LinePlace) (o : Option RangeFault) → range_refusal r.root r.entries chunk.0 chunk.1 ≡ o → length p.left ≤ n
       → with_entries r (elim (elim o as (λ x. Result Entries BlockFault) [ None ↦ Ok (r.entries ++ chunk.0) | Some why ↦ Err (fault.Chunk first why) ]) as (λ x. Result Entries BlockFault) [ Err why ↦ Err why | Ok all ↦ chunks_from n r.root all p ])
       ≡ restoring_goes (elim o as (λ x. RestoringStep) [ None ↦ adds_nothing (with_more r chunk.0) stage.Between | Some why ↦ refuses r (fault.Chunk first why) ]) p.at p.left
   chunk_taken r first chunk p None is few = others (with_more r chunk.0) p.at p.left few
   chunk_taken r first chunk p (Some why) is few = sym (refused_stays r p.at (fault.Chunk first why) p.left)
 
-  block_taken : (r : RestoreValue) (at : ℕ) (line : List ℕ) (ls : List (List ℕ)) (o : Read Chunk) → Bounded (record { at = at + 1; left = ls }) o → length ls ≤ n
+  block_taken : (r : RestoreValue) (at : ℕ) (line : List ℕ) (ls : List (List ℕ)) (o : ReadResult Chunk) → Bounded (record { at = at + 1; left = ls }) o → length ls ≤ n
       → with_entries r (elim o as (λ x. Result Entries BlockFault) [
         | Err e ↦ Err (fault.Line e)
         | Ok b ↦ elim (accepted_chunk r.root at r.entries b.0) as (λ x. Result Entries BlockFault) [ Err why ↦ Err why | Ok all ↦ chunks_from n r.root all b.1 ]

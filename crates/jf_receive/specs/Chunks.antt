@@ -1,7 +1,7 @@
 -- The result of lines of chunk blocks, all together.
 use Rattle.std.specs.Prelude.{ℕ, ◌+◌, List, ◌++◌, Some, None, Result, Ok, Err, zero, suc, [], ◌∷◌, length, ◌==◌, if◌then◌else◌, Option}
 use Rattle.jf_evidence.specs.Ranges.{Entries, range_refusal}
-use Rattle.jf_blocks.specs.Reading.{Chunk, Place, chunk_block, first_place}
+use Rattle.jf_blocks.specs.Reading.{Chunk, LinePlace, chunk_block, first_place}
 use Rattle.jf_receive.specs.declared.fault.BlockFault.{BlockFault}
 use Rattle.jf_receive.specs.declared.fault.BlockFault.TheVariants as fault
 
@@ -10,7 +10,7 @@ abbrev pub accepted_chunk : List ℕ → ℕ → Entries → Chunk → Result En
 accepted_chunk root at known chunk = elim (range_refusal root known chunk.0 chunk.1) [ None ↦ Ok (known ++ chunk.0) | Some why ↦ Err (fault.Chunk at why) ]
 
 -- known entries and then those of all blocks, each accepted after those before it, or the first refusal. n is at least the number of lines that remain
-unfoldable pub chunks_from : ℕ → List ℕ → Entries → Place → Result Entries BlockFault
+unfoldable pub chunks_from : ℕ → List ℕ → Entries → LinePlace → Result Entries BlockFault
 chunks_from zero root known p = Ok known
 chunks_from (suc n) root known p =
     elim p.left [

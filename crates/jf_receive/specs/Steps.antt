@@ -1,6 +1,6 @@
 -- Lines of chunk blocks that are read one by one.
 use Rattle.std.specs.Prelude.{ℕ, ◌≡◌, Some, None, ◌||◌, nat_lt, if◌then◌else◌, [], ◌+◌, ◌-◌, ◌∷◌, ◌++◌, List, Option, Result, Ok, Err}
-use Rattle.jf_evidence.specs.Ranges.{range_refusal, Entry}
+use Rattle.jf_evidence.specs.Ranges.{range_refusal, KeyAndValue}
 use Rattle.jf_restore.specs.RestoreValue.{RestoreValue}
 use Rattle.jf_restore.specs.Restores.{HaveShortValues, with_more}
 use Rattle.jf_blocks.specs.Reading.{Chunk, line_read, entry_of, side_of, chunk_of}
@@ -67,7 +67,7 @@ abbrev pub block_start : ℕ → ChunkHead → Begun
 block_start at head = record { first = at; entries_left = head.entries; siblings_left = head.siblings; entries = []; proof = record { depth = head.depth; siblings = [] } }
 
 -- the block with one more entry, and one fewer to come
-abbrev pub with_entry : Begun → Entry → Begun
+abbrev pub with_entry : Begun → KeyAndValue → Begun
 with_entry b e = record { first = b.first; entries_left = b.entries_left - 1; siblings_left = b.siblings_left; entries = b.entries ++ e ∷ []; proof = b.proof }
 
 -- the block with one more sibling, and one fewer to come; of more than 256 the first 257 are kept
@@ -80,7 +80,7 @@ head_step r at None = refuses r (fault.Line at)
 head_step r at (Some head) = step_within_block r (block_start at head)
 
 -- the step of an entry's line
-abbrev pub entry_step : RestoreValue → ℕ → Begun → Option Entry → RestoringStep
+abbrev pub entry_step : RestoreValue → ℕ → Begun → Option KeyAndValue → RestoringStep
 entry_step r at b None = refuses r (fault.Line at)
 entry_step r at b (Some e) = step_within_block r (with_entry b e)
 

@@ -18,7 +18,7 @@ use Rattle.jf_path.proofs.ListLaws.{All-of, All-weaker, Contains-map}
 use Rattle.jf_path.proofs.FilterLaws.{filter-same, filter-Contains, filter-passes, Contains-filter}
 use Rattle.jf_path.proofs.NumberLaws.{le_so, number_tells, other_number}
 use Rattle.jf_codec.specs.declared.format.Format.{Format}
-use Rattle.jf_standing.specs.Named.{Named, not_stale, is_written, is_stale, written_nodes_at, stale_nodes_at}
+use Rattle.jf_standing.specs.Named.{NamedNode, not_stale, is_written, is_stale, written_nodes_at, stale_nodes_at}
 use Rattle.jf_standing.specs.Standing.{Standing, is_named, marked_node, unmarked_node, with_commit}
 use Rattle.jf_standing.specs.Building.{apart}
 use Rattle.jf_standing.specs.Sound.{IsSound}
@@ -42,33 +42,33 @@ lower_version v w r is = elim (cases_lt w v) [
     greater v w lt = grind (arith, nat_tests)
 
 -- if names rise, so do their versions
-pub rising-versions : (n : Named) (ns : List Named) → IsTrue (are_rising (map (λ n. n.0) (n ∷ ns))) → AllByRecursion (λ m. n.0.version ≤ m.0.version) ns
+pub rising-versions : (n : NamedNode) (ns : List NamedNode) → IsTrue (are_rising (map (λ n. n.0) (n ∷ ns))) → AllByRecursion (λ m. n.0.version ≤ m.0.version) ns
 rising-versions n [] h = tt
 rising-versions n (m ∷ ns) h =
     let le = lower_version n.0.version m.0.version (slice_cmp nat_cmp n.0.path m.0.path) (left_true (is_lt (name_cmp n.0 m.0)) _ h) in
     (le, All-weaker _ _ (λ k later. omega arith) ns (rising-versions m ns (right_true (is_lt (name_cmp n.0 m.0)) _ h)))
 
-pub later_rise : (n : Named) (ns : List Named) → IsTrue (are_rising (map (λ n. n.0) (n ∷ ns))) → IsTrue (are_rising (map (λ n. n.0) ns))
+pub later_rise : (n : NamedNode) (ns : List NamedNode) → IsTrue (are_rising (map (λ n. n.0) (n ∷ ns))) → IsTrue (are_rising (map (λ n. n.0) ns))
 later_rise n [] h = refl
 later_rise n (m ∷ ns) h = right_true (is_lt (name_cmp n.0 m.0)) _ h
 
 -- nodes whose names rise are equal if they have the same name
-pub rising-one_name : (ns : List Named) (m n : Named) → IsTrue (are_rising (map (λ n. n.0) ns)) → Contains ns m → Contains ns n → m.0 ≡ n.0 → m ≡ n
+pub rising-one_name : (ns : List NamedNode) (m n : NamedNode) → IsTrue (are_rising (map (λ n. n.0) ns)) → Contains ns m → Contains ns n → m.0 ≡ n.0 → m ≡ n
 rising-one_name ns m n rises has_m has_n same =
     let sorted = are_rising-sorted (map apart ns) (subst (λ xs. IsTrue (are_rising xs)) (sym (apart_names ns)) rises) in
-    let found = λ (k : Named) (has : Contains ns k). Contains-find name_cmp name_cmp_total same_name-exact (map apart ns) (apart k) sorted (Contains-map apart ns k has) in
+    let found = λ (k : NamedNode) (has : Contains ns k). Contains-find name_cmp name_cmp_total same_name-exact (map apart ns) (apart k) sorted (Contains-map apart ns k has) in
     let rest = same_Some _ _ (sym (found m has_m) ∙ ap (λ k. find name_cmp k (map apart ns)) same ∙ found n has_n) in
     λ i. (same i, (rest i).0, (rest i).1)
 
 -- the nodes written at w or before are those written before w, and then those written at w
-none_before : (w : ℕ) (ns : List Named) → AllByRecursion (λ n. w ≤ n.0.version) ns → 1 ≤ w → filter (is_written_by (w - 1)) ns ≡ []
+none_before : (w : ℕ) (ns : List NamedNode) → AllByRecursion (λ n. w ≤ n.0.version) ns → 1 ≤ w → filter (is_written_by (w - 1)) ns ≡ []
 none_before w [] all some = refl
 none_before w (n ∷ ns) all some = ap (λ b. cond b (n ∷ filter (is_written_by (w - 1)) ns) (filter (is_written_by (w - 1)) ns)) (not_yet n.0.version all.0) ∙ none_before w ns all.1 some
   where
     not_yet : (v : ℕ) → w ≤ v → nat_le v (w - 1) ≡ false
     not_yet v le = grind (arith, nat_tests)
 
-pub split-written : (w : ℕ) (ns : List Named) → 1 ≤ w → IsTrue (are_rising (map (λ n. n.0) ns)) → filter (is_written_by w) ns ≡ filter (is_written_by (w - 1)) ns ++ written_nodes_at w ns
+pub split-written : (w : ℕ) (ns : List NamedNode) → 1 ≤ w → IsTrue (are_rising (map (λ n. n.0) ns)) → filter (is_written_by w) ns ≡ filter (is_written_by (w - 1)) ns ++ written_nodes_at w ns
 split-written w [] some rises = refl
 split-written w (n ∷ ns) some rises = elim (cases_lt n.0.version w) [
   | inl lt ↦
@@ -85,12 +85,12 @@ split-written w (n ∷ ns) some rises = elim (cases_lt n.0.version w) [
     at_or_after v le = grind (arith, nat_tests)
 
 -- ---- the landing that made a version
-stale-named : (w : ℕ) (ns : List Named) (n : Named) → IsTrue (are_rising (map (λ n. n.0) ns)) → Contains ns n → is_named n.0 (map (λ (k : Named). k.0) (stale_nodes_at w ns)) ≡ is_stale w n
-stale-named w ns n rises has = same_test (is_named n.0 (map (λ (k : Named). k.0) (stale_nodes_at w ns))) (is_stale w n)
+stale-named : (w : ℕ) (ns : List NamedNode) (n : NamedNode) → IsTrue (are_rising (map (λ n. n.0) ns)) → Contains ns n → is_named n.0 (map (λ (k : NamedNode). k.0) (stale_nodes_at w ns)) ≡ is_stale w n
+stale-named w ns n rises has = same_test (is_named n.0 (map (λ (k : NamedNode). k.0) (stale_nodes_at w ns))) (is_stale w n)
     (λ is.
-    let k = map-which (λ (k : Named). k.0) (stale_nodes_at w ns) n.0 (named-tells n.0 (map (λ (k : Named). k.0) (stale_nodes_at w ns)) is) in
+    let k = map-which (λ (k : NamedNode). k.0) (stale_nodes_at w ns) n.0 (named-tells n.0 (map (λ (k : NamedNode). k.0) (stale_nodes_at w ns)) is) in
     ap (is_stale w) (sym (rising-one_name ns k.0 n rises (filter-Contains (is_stale w) ns k.0 k.1) has k.2)) ∙ filter-passes (is_stale w) ns k.0 k.1)
-    (λ is. named-so n.0 (map (λ (k : Named). k.0) (stale_nodes_at w ns)) (Contains-map (λ (k : Named). k.0) (stale_nodes_at w ns) n (Contains-filter (is_stale w) ns n has is)))
+    (λ is. named-so n.0 (map (λ (k : NamedNode). k.0) (stale_nodes_at w ns)) (Contains-map (λ (k : NamedNode). k.0) (stale_nodes_at w ns) n (Contains-filter (is_stale w) ns n has is)))
 
 drop-first : (i : ℕ) (xs : List (List ℕ)) → i < length xs → slice_index_or xs i [] ∷ drop (i + 1) xs ≡ drop i xs
 drop-first i [] lt = absurd (omega arith)
@@ -98,7 +98,7 @@ drop-first zero (y ∷ ys) lt = refl
 drop-first (suc i) (y ∷ ys) lt = ap (λ k. slice_index_or ys i [] ∷ drop k (y ∷ ys)) (let e : suc i + 1 ≡ suc (i + 1) = omega arith in e) ∙ drop-first i ys (omega arith)
 
 module _ (s : Standing) (w : ℕ) (late : s.floor < w) (rises : IsTrue (are_rising (map (λ n. n.0) s.nodes))) (numbered : AllByRecursion (IsNumbered s.floor s.head) s.nodes) where
-  marked_by : (n : Named) → Contains s.nodes n → marked_node (landing_making w s) (named_by (w - 1) n) ≡ named_by w n
+  marked_by : (n : NamedNode) → Contains s.nodes n → marked_node (landing_making w s) (named_by (w - 1) n) ≡ named_by w n
   marked_by n has =
       ap (λ b. cond b (n.0, n.1, w) (named_by (w - 1) n)) (stale-named w s.nodes n rises has)
       ∙ (elim (is_stale w n) as (λ b. is_stale w n ≡ b → cond b (n.0, n.1, w) (named_by (w - 1) n) ≡ named_by w n) [
@@ -115,7 +115,7 @@ module _ (s : Standing) (w : ℕ) (late : s.floor < w) (rises : IsTrue (are_risi
           same : (v : ℕ) → (v == w) ≡ false → nat_le v (w - 1) ≡ nat_le v w
           same v is = grind (arith, nat_tests)
 
-  fresh_by : (n : Named) → Contains s.nodes n → is_written w n ≡ true → unmarked_node (without_since n) ≡ named_by w n
+  fresh_by : (n : NamedNode) → Contains s.nodes n → is_written w n ≡ true → unmarked_node (without_since n) ≡ named_by w n
   fresh_by n has is = ap (λ b. (n.0, n.1, cond b n.2 not_stale)) (later n.0.version n.2 (number_tells n.0.version w is) (All-of _ s.nodes n numbered has).later)
     where
       later : (v x : ℕ) → v ≡ w → v < x → false ≡ nat_le x w
@@ -156,13 +156,13 @@ module _ (s : Standing) (w : ℕ) (late : s.floor < w) (rises : IsTrue (are_risi
     fresh_own = All-each_element _ (map without_since (written_nodes_at w s.nodes)) (λ x has.
         let n = map-which without_since (written_nodes_at w s.nodes) x has in
         ap (λ (y : NodeName × PlainNode). y.0.version) (sym n.2) ∙ number_tells n.0.0.version w (filter-passes (is_written w) s.nodes n.0 n.1));
-    stale_known = All-each_element _ (map (λ (n : Named). n.0) (stale_nodes_at w s.nodes)) (λ name has.
-        let n = map-which (λ (n : Named). n.0) (stale_nodes_at w s.nodes) name has in
+    stale_known = All-each_element _ (map (λ (n : NamedNode). n.0) (stale_nodes_at w s.nodes)) (λ name has.
+        let n = map-which (λ (n : NamedNode). n.0) (stale_nodes_at w s.nodes) name has in
         let stood = filter-Contains (is_stale w) s.nodes n.0 n.1 in
         let since = number_tells n.0.2 w (filter-passes (is_stale w) s.nodes n.0 n.1) in
         let before = (All-of _ s.nodes n.0 numbered stood).later in
         let kept = Contains-map (named_by (w - 1)) (filter (is_written_by (w - 1)) s.nodes) n.0 (Contains-filter (is_written_by (w - 1)) s.nodes n.0 stood (le_so n.0.0.version (w - 1) (omega arith))) in
-        named-so name (map (λ (n : Named). n.0) (nodes_by (w - 1) s.nodes)) (subst (Contains (map (λ (n : Named). n.0) (nodes_by (w - 1) s.nodes))) n.2 (Contains-map (λ (n : Named). n.0) (nodes_by (w - 1) s.nodes) (named_by (w - 1) n.0) kept)));
+        named-so name (map (λ (n : NamedNode). n.0) (nodes_by (w - 1) s.nodes)) (subst (Contains (map (λ (n : NamedNode). n.0) (nodes_by (w - 1) s.nodes))) n.2 (Contains-map (λ (n : NamedNode). n.0) (nodes_by (w - 1) s.nodes) (named_by (w - 1) n.0) kept)));
   }
 
 -- a standing at its head is the whole standing
@@ -172,13 +172,13 @@ standing-head s numbered =
     let nodes = whole s.nodes numbered in
     λ i. record { base = s.base; floor = s.floor; head = s.head; roots = roots i; nodes = nodes i }
   where
-    since : (n : Named) → (n.2 ≡ not_stale) ⊎ (n.2 ≤ s.head) → cond (nat_le n.2 s.head) n.2 not_stale ≡ n.2
+    since : (n : NamedNode) → (n.2 ≡ not_stale) ⊎ (n.2 ≤ s.head) → cond (nat_le n.2 s.head) n.2 not_stale ≡ n.2
     since n gone = elim (nat_le n.2 s.head) as (λ b. nat_le n.2 s.head ≡ b → cond b n.2 not_stale ≡ n.2) [
       | true ↦ λ is. refl
       | false ↦ λ is. elim gone [ inl none ↦ sym none | inr late ↦ absurd (true≢false (sym (le_so n.2 s.head late) ∙ is)) ]
     ] refl
 
-    whole : (ns : List Named) → AllByRecursion (IsNumbered s.floor s.head) ns → nodes_by s.head ns ≡ ns
+    whole : (ns : List NamedNode) → AllByRecursion (IsNumbered s.floor s.head) ns → nodes_by s.head ns ≡ ns
     whole [] h = refl
     whole (n ∷ ns) h =
         ap (λ b. map (named_by s.head) (cond b (n ∷ filter (is_written_by s.head) ns) (filter (is_written_by s.head) ns))) (le_so n.0.version s.head h.0.written)

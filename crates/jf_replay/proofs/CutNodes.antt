@@ -4,7 +4,7 @@ use Rattle.std.proofs.lemmas.Bool.Decides.{nat_tests}
 use Rattle.std.specs.List.{AllByRecursion}
 use Rattle.jf_path.proofs.ListLaws.{All-of}
 use Rattle.jf_path.proofs.FilterLaws.{filter-map, filter-same, filter-filter}
-use Rattle.jf_standing.specs.Named.{Named, not_stale, is_alive, is_written, is_stale, alive_nodes_at, written_nodes_at, stale_nodes_at}
+use Rattle.jf_standing.specs.Named.{NamedNode, not_stale, is_alive, is_written, is_stale, alive_nodes_at, written_nodes_at, stale_nodes_at}
 use Rattle.jf_standing.proofs.Lists.{All-each_element}
 use Rattle.jf_replay.specs.Cuts.{is_written_by, named_by, nodes_by}
 
@@ -25,12 +25,12 @@ written_by : (v x w : ℕ) → x ≤ w → (nat_le v w && (v == x)) ≡ (v == x)
 written_by v x w low = grind (arith, nat_tests)
 
 -- a test that sees no later versions keeps the same nodes
-pub filter-nodes_by : (test : Named → Bool) (w : ℕ) (ns : List Named) → AllByRecursion (λ n. (is_written_by w n && test (named_by w n)) ≡ test n) ns → filter test (nodes_by w ns) ≡ map (named_by w) (filter test ns)
+pub filter-nodes_by : (test : NamedNode → Bool) (w : ℕ) (ns : List NamedNode) → AllByRecursion (λ n. (is_written_by w n && test (named_by w n)) ≡ test n) ns → filter test (nodes_by w ns) ≡ map (named_by w) (filter test ns)
 filter-nodes_by test w ns same =
     filter-map test (named_by w) (filter (is_written_by w) ns)
     ∙ ap (map (named_by w)) (filter-filter (is_written_by w) (λ n. test (named_by w n)) ns ∙ filter-same (λ n. is_written_by w n && test (named_by w n)) test ns same)
 
-module _ (w : ℕ) (ns : List Named) (last : w < not_stale) (x : ℕ) (low : x ≤ w) where
+module _ (w : ℕ) (ns : List NamedNode) (last : w < not_stale) (x : ℕ) (low : x ≤ w) where
   pub alive-nodes_by : alive_nodes_at x (nodes_by w ns) ≡ map (named_by w) (alive_nodes_at x ns)
   alive-nodes_by = filter-nodes_by (is_alive x) w ns (All-each_element _ ns (λ n has. alive_by n.0.version n.2 x w low last))
 

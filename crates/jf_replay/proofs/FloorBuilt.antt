@@ -10,7 +10,7 @@ use Rattle.jf_hash.specs.Roots.{root}
 use Rattle.jf_model.specs.Nodes.{Path, is_node}
 use Rattle.jf_codec.specs.declared.format.Format.{Format}
 use Rattle.jf_codec.specs.declared.format.Format.TheVariants as format
-use Rattle.jf_standing.specs.Named.{Named, not_stale, map_at, version_at}
+use Rattle.jf_standing.specs.Named.{NamedNode, not_stale, map_at, version_at}
 use Rattle.jf_standing.specs.Standing.{Standing}
 use Rattle.jf_standing.specs.Sound.{IsSound}
 use Rattle.jf_standing.specs.Building.{floor_standing, nodes_by_name, apart, as_named}
@@ -43,7 +43,7 @@ use Rattle.jf_replay.proofs.CutSound.{sound-by, map-nodes_by, version-nodes_by}
 use Rattle.jf_replay.proofs.Fronts.{rising-filter}
 
 -- nodes whose names rise are equal if they are the same nodes
-pub same_rising : (xs ys : List Named) → IsTrue (are_rising (map (λ n. n.0) xs)) → IsTrue (are_rising (map (λ n. n.0) ys)) → ((n : Named) → Contains xs n → Contains ys n) → ((n : Named) → Contains ys n → Contains xs n) → xs ≡ ys
+pub same_rising : (xs ys : List NamedNode) → IsTrue (are_rising (map (λ n. n.0) xs)) → IsTrue (are_rising (map (λ n. n.0) ys)) → ((n : NamedNode) → Contains xs n → Contains ys n) → ((n : NamedNode) → Contains ys n → Contains xs n) → xs ≡ ys
 same_rising xs ys rises rises' there here =
     sym (back xs)
     ∙ ap (map as_named) (same_sorted name_cmp name_cmp_total same_name-exact (map apart xs) (map apart ys)
@@ -52,15 +52,15 @@ same_rising xs ys rises rises' there here =
     (λ e has. let n = map-which apart ys e has in subst (Contains (map apart xs)) n.2 (Contains-map apart xs n.0 (here n.0 n.1))))
     ∙ back ys
   where
-    back : (ns : List Named) → map as_named (map apart ns) ≡ ns
+    back : (ns : List NamedNode) → map as_named (map apart ns) ≡ ns
     back [] = refl
     back (n ∷ ns) = ap (λ t. n ∷ t) (back ns)
 
-names_by : (w : ℕ) (ns : List Named) → map (λ (n : Named). n.0) (map (named_by w) ns) ≡ map (λ n. n.0) ns
+names_by : (w : ℕ) (ns : List NamedNode) → map (λ (n : NamedNode). n.0) (map (named_by w) ns) ≡ map (λ n. n.0) ns
 names_by w [] = refl
 names_by w (n ∷ ns) = ap (λ t. n.0 ∷ t) (names_by w ns)
 
-names_in : (fmt : Format) (ns : List Named) → map (λ (n : Named). n.0) (map (listed_in fmt) ns) ≡ map (λ n. n.0) ns
+names_in : (fmt : Format) (ns : List NamedNode) → map (λ (n : NamedNode). n.0) (map (listed_in fmt) ns) ≡ map (λ n. n.0) ns
 names_in fmt [] = refl
 names_in fmt (n ∷ ns) = ap (λ t. n.0 ∷ t) (names_in fmt ns)
 
@@ -124,7 +124,7 @@ module _ (base : ℕ) (earlier : List (List ℕ)) (x : SnapshotValue) (snapshot 
   begun-versions p node = version-moved format.Two plain (nodes_by_name plain.nodes) plain_sound moved x.version (omega arith) (omega arith) p ∙ version-floor format.Two base x.version roots x.map (version_in x) snapshot.map low_versions last p node
 
 -- ---- comparison
-pub same_listed-exact : (fmt : Format) (floor : ℕ) (own ds : List Named) → AllByRecursion (λ n. floor < n.2) own → AllByRecursion (λ n. n.2 ≡ not_stale) ds → pointwise same_listed own (map (listed_in fmt) ds) ≡ true → map (listed_in fmt) ds ≡ map (named_by floor) own
+pub same_listed-exact : (fmt : Format) (floor : ℕ) (own ds : List NamedNode) → AllByRecursion (λ n. floor < n.2) own → AllByRecursion (λ n. n.2 ≡ not_stale) ds → pointwise same_listed own (map (listed_in fmt) ds) ≡ true → map (listed_in fmt) ds ≡ map (named_by floor) own
 same_listed-exact fmt floor [] [] late live is = refl
 same_listed-exact fmt floor [] (k ∷ ds) late live is = absurd (true≢false (sym is))
 same_listed-exact fmt floor (n ∷ own) [] late live is = absurd (true≢false (sym is))
@@ -140,6 +140,6 @@ same_listed-exact fmt floor (n ∷ own) (k ∷ ds) late live is =
         not_le : (v : ℕ) → floor < v → nat_le v floor ≡ false
         not_le v lt = grind (arith, nat_tests)
 
-pub same_listed-refl : (w : ℕ) (own : List Named) → pointwise same_listed own (map (named_by w) own) ≡ true
+pub same_listed-refl : (w : ℕ) (own : List NamedNode) → pointwise same_listed own (map (named_by w) own) ≡ true
 same_listed-refl w [] = refl
 same_listed-refl w (n ∷ own) = ap₂ (λ a b. a && b) (ap₂ (λ a b. a && b) ((name-exact n.0 n.0).1 refl) ((node-exact n.1 n.1).1 refl)) (same_listed-refl w own)

@@ -14,7 +14,7 @@ use Rattle.jf_codec.specs.declared.format.Format.{Format}
 use Rattle.jf_codec.specs.declared.format.Format.TheVariants as format
 use Rattle.jf_node.specs.SnapshotValue.{SnapshotValue}
 use Rattle.jf_node.specs.Snapshots.{IsSnapshot}
-use Rattle.jf_standing.specs.Named.{Named, not_stale, alive_nodes_at, map_at, version_at}
+use Rattle.jf_standing.specs.Named.{NamedNode, not_stale, alive_nodes_at, map_at, version_at}
 use Rattle.jf_standing.specs.Standing.{Standing}
 use Rattle.jf_standing.specs.Sound.{IsSound}
 use Rattle.jf_standing.specs.FormatLaws.{standing_in}
@@ -42,7 +42,7 @@ roots-upto roots k lt =
     rest (x ∷ xs) zero lt = omega arith
     rest (x ∷ xs) (suc k) lt = let e = rest xs k (omega arith) in omega (arith, e)
 
-module _ (fmt : Format) (base floor head : ℕ) (roots : List (List ℕ)) (ns own : List Named) (read : IsReadStanding (standing_listed base floor head roots ns)) (numbered : list_all (has_numbers floor head) ns ≡ true) (own_is : own ≡ filter (is_written_by floor) ns) where
+module _ (fmt : Format) (base floor head : ℕ) (roots : List (List ℕ)) (ns own : List NamedNode) (read : IsReadStanding (standing_listed base floor head roots ns)) (numbered : list_all (has_numbers floor head) ns ≡ true) (own_is : own ≡ filter (is_written_by floor) ns) where
   abbrev s : Standing
   s = standing_listed base floor head roots ns
 
@@ -101,7 +101,7 @@ module _ (fmt : Format) (base floor head : ℕ) (roots : List (List ℕ)) (ns ow
       -- a directory with the listed nodes and root is the floor
       pub begun : root x.map ≡ slice_index_or roots (floor - base) [] → pointwise same_listed own (map (listed_in fmt) d.nodes) ≡ true → standing_in fmt d ≡ standing_by floor s
       begun rooted same =
-          let late = All-each_element (λ (n : Named). floor < n.2) own (λ n has. (All-of _ ns n all (filter-Contains (is_written_by floor) ns n (subst (λ xs. Contains xs n) own_is has))).kept) in
+          let late = All-each_element (λ (n : NamedNode). floor < n.2) own (λ n has. (All-of _ ns n all (filter-Contains (is_written_by floor) ns n (subst (λ xs. Contains xs n) own_is has))).kept) in
           let nodes = same_listed-exact fmt floor own d.nodes late live_never same ∙ ap (map (named_by floor)) own_is in
           let b : d.base ≡ base = ap (λ (t : Standing). t.base) is in
           let low = read.base_low in

@@ -22,7 +22,7 @@ use Rattle.jf_walk.proofs.FreshOrder.{sorted-nodes_below}
 use Rattle.jf_walk.proofs.NodeLists.{nodes_below-suc}
 use Rattle.jf_walk.proofs.NodePaths.{IsPath-is_node}
 use Rattle.jf_walk.proofs.NodesListed.{nodes-exact}
-use Rattle.jf_standing.specs.Named.{Named, is_alive, is_at, alive_nodes_at, map_at, version_at, leaf_entries}
+use Rattle.jf_standing.specs.Named.{NamedNode, is_alive, is_at, alive_nodes_at, map_at, version_at, leaf_entries}
 use Rattle.jf_standing.specs.Standing.{Standing}
 use Rattle.jf_standing.specs.Sound.{IsSound}
 use Rattle.jf_standing.specs.Next.{IsReadStanding}
@@ -45,10 +45,10 @@ use Rattle.jf_replay.proofs.KeyOrder.{entries-in_key_order, sorted-in_key_order,
 use Rattle.jf_replay.proofs.Numbered.{IsNumbered}
 
 -- the nodes written by the floor are those alive there, if none is stale by then
-pub alive-floor : (floor head : ℕ) (ns : List Named) → AllByRecursion (IsNumbered floor head) ns → filter (is_written_by floor) ns ≡ alive_nodes_at floor ns
+pub alive-floor : (floor head : ℕ) (ns : List NamedNode) → AllByRecursion (IsNumbered floor head) ns → filter (is_written_by floor) ns ≡ alive_nodes_at floor ns
 alive-floor floor head ns numbered = filter-same (is_written_by floor) (is_alive floor) ns (All-each_element _ ns (λ n has. sym (ap (λ b. is_written_by floor n && b) (lt_so floor n.2 (All-of _ ns n numbered has).kept) ∙ and_true (is_written_by floor n))))
 
-module _ (floor head : ℕ) (ns own : List Named) (is : own ≡ alive_nodes_at floor ns) where
+module _ (floor head : ℕ) (ns own : List NamedNode) (is : own ≡ alive_nodes_at floor ns) where
   -- the entries read off the leaves are those of the map at the floor
   pub entries-floor : entries_in own ≡ entries (map_at floor ns)
   unfolding map_at
@@ -85,14 +85,14 @@ module _ (fmt : Format) (s : Standing) (read : IsReadStanding s) (sound : IsSoun
   abbrev m : Map
   m = map_at s.floor s.nodes
 
-  abbrev alive : List Named
+  abbrev alive : List NamedNode
   alive = alive_nodes_at s.floor s.nodes
 
   abbrev version : Path → ℕ
   version p = version_at s.floor s.nodes p
 
   -- a node of the floor stands at a node of its map, with the version there
-  of_alive : (n : Named) → Contains alive n → (is_node 0 n.0.path (entries m) ≡ true) × (version n.0.path ≡ n.0.version)
+  of_alive : (n : NamedNode) → Contains alive n → (is_node 0 n.0.path (entries m) ≡ true) × (version n.0.path ≡ n.0.version)
   of_alive n has = (
     test_so _ _ (stands fmt s sound s.floor (omega arith) sound.floor_low n.0.path) (count-some (is_at n.0.path) alive n has (at-so n.0.path n refl)),
     version-of s.floor s.nodes n.0.path n (few-alive fmt s sound s.floor (omega arith) sound.floor_low n.0.path) has refl,
@@ -141,7 +141,7 @@ module _ (fmt : Format) (s : Standing) (read : IsReadStanding s) (sound : IsSoun
   unfolding nodes
   top_first = ap (λ xs. take 1 (map (λ (x : Path × Part). version x.0) xs)) (nodes_below-suc 63 0 (entries m)) ∙ ap (λ v. v ∷ []) sound.floor_root
 
-  module _ (own : List Named) (is : own ≡ alive) where
+  module _ (own : List NamedNode) (is : own ≡ alive) where
     own_versions : versions_by_path own ≡ map (λ x. version x.0) (nodes m)
     own_versions = ap versions_by_path is ∙ versions_read
 

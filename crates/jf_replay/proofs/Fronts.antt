@@ -12,7 +12,7 @@ use Rattle.jf_path.specs.Names.{name_cmp, are_rising}
 use Rattle.jf_path.specs.Nodes.{ChildrenRiseFrom}
 use Rattle.jf_path.proofs.BoolLaws.{left_so, right_so, both_so}
 use Rattle.jf_path.proofs.NumberLaws.{same_number}
-use Rattle.jf_standing.specs.Named.{Named, is_stale, stale_nodes_at}
+use Rattle.jf_standing.specs.Named.{NamedNode, is_stale, stale_nodes_at}
 use Rattle.jf_standing.specs.Building.{apart}
 use Rattle.jf_standing.proofs.Names.{are_rising-sorted}
 use Rattle.jf_standing.proofs.Rising.{sorted-are_rising}
@@ -32,14 +32,14 @@ pub children-next : (cs : List Child) (i : ℕ) (d c : Child) → i < length cs 
 children-next cs i d c within at rises = subst (ChildrenRiseFrom 0) (take-next cs i d c within at) (rise_front 0 (take (i + 1) cs) (drop (i + 1) cs) (subst (ChildrenRiseFrom 0) (sym (take-append-drop (i + 1) cs)) rises))
 
 -- ---- named nodes
-below_kept : (k : NodeName) (test : Named → Bool) (ns : List Named) → T (below_all name_cmp k (map apart ns)) → T (below_all name_cmp k (map apart (filter test ns)))
+below_kept : (k : NodeName) (test : NamedNode → Bool) (ns : List NamedNode) → T (below_all name_cmp k (map apart ns)) → T (below_all name_cmp k (map apart (filter test ns)))
 below_kept k test [] h = tt
 below_kept k test (n ∷ ns) h = elim (test n) as (λ b. T (below_all name_cmp k (map apart (cond b (n ∷ filter test ns) (filter test ns))))) [
   | true ↦ both_so _ _ (left_so _ _ h) (below_kept k test ns (right_so _ _ h))
   | false ↦ below_kept k test ns (right_so _ _ h)
 ]
 
-kept_sorted : (test : Named → Bool) (ns : List Named) → T (is_sorted name_cmp (map apart ns)) → T (is_sorted name_cmp (map apart (filter test ns)))
+kept_sorted : (test : NamedNode → Bool) (ns : List NamedNode) → T (is_sorted name_cmp (map apart ns)) → T (is_sorted name_cmp (map apart (filter test ns)))
 kept_sorted test [] h = tt
 kept_sorted test (n ∷ ns) h = elim (test n) as (λ b. T (is_sorted name_cmp (map apart (cond b (n ∷ filter test ns) (filter test ns))))) [
   | true ↦ both_so _ _ (below_kept n.0 test ns (left_so _ _ h)) (kept_sorted test ns (right_so _ _ h))
@@ -47,34 +47,34 @@ kept_sorted test (n ∷ ns) h = elim (test n) as (λ b. T (is_sorted name_cmp (m
 ]
 
 -- the names of nodes that a filter keeps still rise
-pub rising-filter : (test : Named → Bool) (ns : List Named) → IsTrue (are_rising (map (λ n. n.0) ns)) → IsTrue (are_rising (map (λ n. n.0) (filter test ns)))
+pub rising-filter : (test : NamedNode → Bool) (ns : List NamedNode) → IsTrue (are_rising (map (λ n. n.0) ns)) → IsTrue (are_rising (map (λ n. n.0) (filter test ns)))
 rising-filter test ns rises = subst (λ xs. IsTrue (are_rising xs)) (apart_names (filter test ns)) (sorted-are_rising (map apart (filter test ns)) (kept_sorted test ns (are_rising-sorted (map apart ns) (subst (λ xs. IsTrue (are_rising xs)) (sym (apart_names ns)) rises))))
 
 -- and so do those of the nodes at the front
-pub rising-take : (i : ℕ) (ns : List Named) → IsTrue (are_rising (map (λ n. n.0) ns)) → IsTrue (are_rising (map (λ n. n.0) (take i ns)))
-rising-take i ns rises = are_rising-front (map (λ n. n.0) (take i ns)) (map (λ n. n.0) (drop i ns)) (subst (λ xs. IsTrue (are_rising xs)) (sym (sym (map-append (λ (n : Named). n.0) (take i ns) (drop i ns)) ∙ ap (map (λ (n : Named). n.0)) (take-append-drop i ns))) rises)
+pub rising-take : (i : ℕ) (ns : List NamedNode) → IsTrue (are_rising (map (λ n. n.0) ns)) → IsTrue (are_rising (map (λ n. n.0) (take i ns)))
+rising-take i ns rises = are_rising-front (map (λ n. n.0) (take i ns)) (map (λ n. n.0) (drop i ns)) (subst (λ xs. IsTrue (are_rising xs)) (sym (sym (map-append (λ (n : NamedNode). n.0) (take i ns) (drop i ns)) ∙ ap (map (λ (n : NamedNode). n.0)) (take-append-drop i ns))) rises)
 
-pub rising-next : (ns : List Named) (i : ℕ) (d n : Named) → i < length ns → n ≡ get_or ns i d → IsTrue (are_rising (map (λ n. n.0) ns)) → IsTrue (are_rising (map (λ (x : NodeName × PlainNode). x.0) (map without_since (take i ns) ++ without_since n ∷ [])))
-rising-next ns i d n within at rises = subst (λ xs. IsTrue (are_rising xs)) (ap (map (λ (n : Named). n.0)) (take-next ns i d n within at) ∙ named (take i ns)) (rising-take (i + 1) ns rises)
+pub rising-next : (ns : List NamedNode) (i : ℕ) (d n : NamedNode) → i < length ns → n ≡ get_or ns i d → IsTrue (are_rising (map (λ n. n.0) ns)) → IsTrue (are_rising (map (λ (x : NodeName × PlainNode). x.0) (map without_since (take i ns) ++ without_since n ∷ [])))
+rising-next ns i d n within at rises = subst (λ xs. IsTrue (are_rising xs)) (ap (map (λ (n : NamedNode). n.0)) (take-next ns i d n within at) ∙ named (take i ns)) (rising-take (i + 1) ns rises)
   where
-    named : (xs : List Named) → map (λ (n : Named). n.0) (xs ++ n ∷ []) ≡ map (λ x. x.0) (map without_since xs ++ without_since n ∷ [])
+    named : (xs : List NamedNode) → map (λ (n : NamedNode). n.0) (xs ++ n ∷ []) ≡ map (λ x. x.0) (map without_since xs ++ without_since n ∷ [])
     named [] = refl
     named (x ∷ xs) = ap (λ t. x.0 ∷ t) (named xs)
 
 -- ---- names of stale nodes
 -- one node more: its name comes last beside the version since which it is stale, and nothing else changes
-pub stale-next : (w : ℕ) (ns : List Named) (i : ℕ) (d n : Named) → i < length ns → n ≡ get_or ns i d → map (λ (n : Named). n.0) (stale_nodes_at w (take (i + 1) ns)) ≡ cond (n.2 == w) (map (λ n. n.0) (stale_nodes_at w (take i ns)) ++ n.0 ∷ []) (map (λ n. n.0) (stale_nodes_at w (take i ns)))
+pub stale-next : (w : ℕ) (ns : List NamedNode) (i : ℕ) (d n : NamedNode) → i < length ns → n ≡ get_or ns i d → map (λ (n : NamedNode). n.0) (stale_nodes_at w (take (i + 1) ns)) ≡ cond (n.2 == w) (map (λ n. n.0) (stale_nodes_at w (take i ns)) ++ n.0 ∷ []) (map (λ n. n.0) (stale_nodes_at w (take i ns)))
 stale-next w ns i d n within at =
-    ap (λ xs. map (λ (n : Named). n.0) (stale_nodes_at w xs)) (take-next ns i d n within at)
-    ∙ ap (map (λ (n : Named). n.0)) (filter-append (is_stale w) (take i ns) (n ∷ []))
-    ∙ map-append (λ (n : Named). n.0) (stale_nodes_at w (take i ns)) (stale_nodes_at w (n ∷ []))
+    ap (λ xs. map (λ (n : NamedNode). n.0) (stale_nodes_at w xs)) (take-next ns i d n within at)
+    ∙ ap (map (λ (n : NamedNode). n.0)) (filter-append (is_stale w) (take i ns) (n ∷ []))
+    ∙ map-append (λ (n : NamedNode). n.0) (stale_nodes_at w (take i ns)) (stale_nodes_at w (n ∷ []))
     ∙ last (n.2 == w)
   where
-    last : (b : Bool) → map (λ (n : Named). n.0) (stale_nodes_at w (take i ns)) ++ map (λ (n : Named). n.0) (cond b (n ∷ []) []) ≡ cond b (map (λ n. n.0) (stale_nodes_at w (take i ns)) ++ n.0 ∷ []) (map (λ n. n.0) (stale_nodes_at w (take i ns)))
+    last : (b : Bool) → map (λ (n : NamedNode). n.0) (stale_nodes_at w (take i ns)) ++ map (λ (n : NamedNode). n.0) (cond b (n ∷ []) []) ≡ cond b (map (λ n. n.0) (stale_nodes_at w (take i ns)) ++ n.0 ∷ []) (map (λ n. n.0) (stale_nodes_at w (take i ns)))
     last true = refl
-    last false = append-nil (map (λ (n : Named). n.0) (stale_nodes_at w (take i ns)))
+    last false = append-nil (map (λ (n : NamedNode). n.0) (stale_nodes_at w (take i ns)))
 
-pub stale-rising : (ns : List Named) (i : ℕ) (d n : Named) → i < length ns → n ≡ get_or ns i d → IsTrue (are_rising (map (λ n. n.0) ns)) → IsTrue (are_rising (map (λ n. n.0) (stale_nodes_at n.2 (take i ns)) ++ n.0 ∷ []))
+pub stale-rising : (ns : List NamedNode) (i : ℕ) (d n : NamedNode) → i < length ns → n ≡ get_or ns i d → IsTrue (are_rising (map (λ n. n.0) ns)) → IsTrue (are_rising (map (λ n. n.0) (stale_nodes_at n.2 (take i ns)) ++ n.0 ∷ []))
 stale-rising ns i d n within at rises =
     subst (λ xs. IsTrue (are_rising xs)) (stale-next n.2 ns i d n within at ∙ ap (λ b. cond b (map (λ n. n.0) (stale_nodes_at n.2 (take i ns)) ++ n.0 ∷ []) (map (λ n. n.0) (stale_nodes_at n.2 (take i ns)))) (same_number n.2 n.2 refl))
     (rising-filter (is_stale n.2) (take (i + 1) ns) (rising-take (i + 1) ns rises))

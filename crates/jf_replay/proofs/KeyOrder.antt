@@ -12,7 +12,7 @@ use Rattle.jf_path.specs.declared.node.PlainNode.{PlainNode}
 use Rattle.jf_path.specs.declared.node.PlainNode.TheVariants as node
 use Rattle.jf_hash.proofs.KeyOrder.{same_key-exact}
 use Rattle.jf_hash.specs.Maps.{Map}
-use Rattle.jf_standing.specs.Named.{Named, leaf_entry, leaf_entries}
+use Rattle.jf_standing.specs.Named.{NamedNode, leaf_entry, leaf_entries}
 use Rattle.jf_replay.specs.Floors.{in_key_order, path_and_version, entries_in}
 use Rattle.std.proofs.lemmas.Option.{same_Some}
 use Rattle.jf_path.specs.Limits.{max_value}
@@ -54,17 +54,17 @@ entries-in_key_order es =
     (λ q. sym (fin.get-entries m q) ∙ fin.get-from_entries nat_list_cmp_total es q ∙ sym (find-in_key_order q es))
 
 -- ---- steps from the last node of a list to the first
-leaf_first : (n : Named) (ns : List Named) (key value : List ℕ) → n.1 ≡ node.Leaf key value → entries_in (n ∷ ns) ≡ put key_cmp key value (entries_in ns)
+leaf_first : (n : NamedNode) (ns : List NamedNode) (key value : List ℕ) → n.1 ≡ node.Leaf key value → entries_in (n ∷ ns) ≡ put key_cmp key value (entries_in ns)
 leaf_first n ns key value is = ap (λ (x : PlainNode). in_key_order (cons_option (leaf_entry x) (leaf_entries ns))) is
 
 -- the leaf at a place is put over those after it
-pub leaf_put_at : (ns : List Named) (i : ℕ) (x : Named) (key value : List ℕ) (old new : List (List ℕ × List ℕ)) → 0 < i → i ≤ length ns → (get_or ns (i - 1) x).1 ≡ node.Leaf key value
+pub leaf_put_at : (ns : List NamedNode) (i : ℕ) (x : NamedNode) (key value : List ℕ) (old new : List (List ℕ × List ℕ)) → 0 < i → i ≤ length ns → (get_or ns (i - 1) x).1 ≡ node.Leaf key value
     → old ≡ entries_in (drop i ns) → new ≡ insert_entry key_cmp old key value → new ≡ entries_in (drop (i - 1) ns)
 leaf_put_at ns i x key value old new some low is was now =
     now ∙ insert_entry-is_put key value old ∙ ap (put key_cmp key value) was ∙ sym (leaf_first (get_or ns (i - 1) x) (drop i ns) key value is) ∙ ap entries_in (sym (drop-up ns i x some low))
 
 -- the version of the node at a place is put over those after it
-pub version_put_at : (ns : List Named) (i : ℕ) (x : Named) (old new : List (List ℕ × ℕ)) → 0 < i → i ≤ length ns → x ≡ get_or ns (i - 1) x
+pub version_put_at : (ns : List NamedNode) (i : ℕ) (x : NamedNode) (old new : List (List ℕ × ℕ)) → 0 < i → i ≤ length ns → x ≡ get_or ns (i - 1) x
     → old ≡ in_key_order (map path_and_version (drop i ns)) → new ≡ insert_entry key_cmp old x.0.path x.0.version → new ≡ in_key_order (map path_and_version (drop (i - 1) ns))
 version_put_at ns i x old new some low at was now =
     now ∙ insert_entry-is_put x.0.path x.0.version old ∙ ap (put key_cmp x.0.path x.0.version) was
@@ -72,7 +72,7 @@ version_put_at ns i x old new some low at was now =
 
 -- ---- values
 -- the values of leaves that have a spelling are short
-pub short-in_key_order : (fmt : Format) (ns : List Named) → AllByRecursion (λ n. IsName n.0 × IsNode fmt n.1 × (n.2 < 2 ^ 64)) ns → AllByRecursion (λ e. length e.1 ≤ max_value) (entries_in ns)
+pub short-in_key_order : (fmt : Format) (ns : List NamedNode) → AllByRecursion (λ n. IsName n.0 × IsNode fmt n.1 × (n.2 < 2 ^ 64)) ns → AllByRecursion (λ e. length e.1 ≤ max_value) (entries_in ns)
 short-in_key_order fmt ns spelled = All-each_element _ (entries_in ns) (λ e has.
     let found = sym (find-in_key_order e.0 (leaf_entries ns)) ∙ Contains-find key_cmp nat_list_cmp_total same_key-exact (entries_in ns) e (sorted-in_key_order (leaf_entries ns)) has in
     let n = leaf-which ns e (find-Contains key_cmp nat_list_cmp_total same_key-exact e.0 e.1 (leaf_entries ns) found) in

@@ -14,7 +14,7 @@ use Rattle.jf_codec.specs.Spelling.{IsNode}
 use Rattle.jf_codec.specs.declared.format.Format.{Format}
 use Rattle.jf_payload.specs.Spelling.{IsCommit}
 use Rattle.jf_payload.specs.declared.records.Commit.{Commit}
-use Rattle.jf_standing.specs.Named.{Named, not_stale, is_written, is_stale, written_nodes_at, stale_nodes_at}
+use Rattle.jf_standing.specs.Named.{NamedNode, not_stale, is_written, is_stale, written_nodes_at, stale_nodes_at}
 use Rattle.jf_standing.specs.Standing.{Standing, with_commit}
 use Rattle.jf_standing.specs.Next.{IsReadStanding}
 use Rattle.jf_standing.specs.Sound.{IsSound}
@@ -27,15 +27,15 @@ use Rattle.jf_replay.proofs.Fronts.{rising-filter}
 use Rattle.jf_replay.proofs.Numbered.{IsNumbered, all-numbered, numbered-all}
 
 -- what holds of each node when all nodes have a spelling
-abbrev pub IsSpelled : Format → Named → Type 0
+abbrev pub IsSpelled : Format → NamedNode → Type 0
 IsSpelled fmt n = IsName n.0 × IsNode fmt n.1 × (n.2 < 2 ^ 64)
 
-same_names : (ns : List Named) → map (λ (x : NodeName × PlainNode). x.0) (map without_since ns) ≡ map (λ n. n.0) ns
+same_names : (ns : List NamedNode) → map (λ (x : NodeName × PlainNode). x.0) (map without_since ns) ≡ map (λ n. n.0) ns
 same_names [] = refl
 same_names (n ∷ ns) = ap (λ t. n.0 ∷ t) (same_names ns)
 
 -- the landing of a version has a spelling if all nodes have
-pub listed-spelled : (fmt : Format) (w : ℕ) (root : List ℕ) (ns : List Named) → w < 2 ^ 64 → IsKey root → length ns < 2 ^ 64 → AllByRecursion (IsSpelled fmt) ns → IsTrue (are_rising (map (λ n. n.0) ns)) → IsCommit fmt (landing_listed w root ns)
+pub listed-spelled : (fmt : Format) (w : ℕ) (root : List ℕ) (ns : List NamedNode) → w < 2 ^ 64 → IsKey root → length ns < 2 ^ 64 → AllByRecursion (IsSpelled fmt) ns → IsTrue (are_rising (map (λ n. n.0) ns)) → IsCommit fmt (landing_listed w root ns)
 listed-spelled fmt w root ns small key few spelled rises = record {
   version = small;
   root = key;
@@ -45,8 +45,8 @@ listed-spelled fmt w root ns small key few spelled rises = record {
       subst (λ (y : NodeName × PlainNode). IsName y.0 × IsNode fmt y.1) n.2 (is.0, is.1));
   fresh_count = omega (arith, length-map (written_nodes_at w ns) without_since, length-filter_le (is_written w) ns);
   fresh_rise = subst (λ xs. IsTrue (are_rising xs)) (sym (same_names (written_nodes_at w ns))) (rising-filter (is_written w) ns rises);
-  stale = All-each_element _ (map (λ (n : Named). n.0) (stale_nodes_at w ns)) (λ name has.
-      let n = map-which (λ (n : Named). n.0) (stale_nodes_at w ns) name has in
+  stale = All-each_element _ (map (λ (n : NamedNode). n.0) (stale_nodes_at w ns)) (λ name has.
+      let n = map-which (λ (n : NamedNode). n.0) (stale_nodes_at w ns) name has in
       subst IsName n.2 (All-of (IsSpelled fmt) ns n.0 spelled (filter-Contains (is_stale w) ns n.0 n.1)).0);
   stale_count = omega (arith, length-map (stale_nodes_at w ns) (λ n. n.0), length-filter_le (is_stale w) ns);
   stale_rise = rising-filter (is_stale w) ns rises;
@@ -78,14 +78,14 @@ root-listed roots base head w each low high =
     get_or-reverse roots (head - w) [] (omega arith) ∙ ap (λ i. get_or roots i []) (let e : length roots - 1 - (head - w) ≡ w - base = omega arith in e)
 
 -- what is read off the lists is the landing that made the version
-pub is-making : (base floor head : ℕ) (roots : List (List ℕ)) (ns : List Named) (w : ℕ) (c : Commit) (r : List ℕ) (names : List NodeName)
+pub is-making : (base floor head : ℕ) (roots : List (List ℕ)) (ns : List NamedNode) (w : ℕ) (c : Commit) (r : List ℕ) (names : List NodeName)
     → c ≡ record { version = w; root = r; fresh = map without_since (written_nodes_at w ns); stale = names } → r ≡ slice_index_or roots (w - base) [] → names ≡ map (λ n. n.0) (stale_nodes_at w ns)
     → length (reverse roots) ≡ head - base + 1 → base ≤ w → w ≤ head → c ≡ landing_making w (standing_listed base floor head roots ns)
 is-making base floor head roots ns w c r names is root stale each low high =
     is ∙ ap₂ (λ x y. record { version = w; root = x; fresh = map without_since (written_nodes_at w ns); stale = y }) (root ∙ sym (root-listed roots base head w each low high)) stale
 
 -- ---- the loop over the versions above the floor
-module _ (base floor head : ℕ) (roots : List (List ℕ)) (ns : List Named) (read : IsReadStanding (standing_listed base floor head roots ns)) (step : ℕ) (below : step < head - floor) where
+module _ (base floor head : ℕ) (roots : List (List ℕ)) (ns : List NamedNode) (read : IsReadStanding (standing_listed base floor head roots ns)) (step : ℕ) (below : step < head - floor) where
   -- each step reads the landing of its version off the lists
   pub step-making : (c : Commit) (names : List NodeName) (es : List (ℕ × List NodeName))
       → c ≡ record { version = floor + 1 + step; root = slice_index_or roots (floor + 1 + step - base) []; fresh = map without_since (written_nodes_at (floor + 1 + step) ns); stale = names } → names ≡ names_beside (floor + 1 + step) es
@@ -109,14 +109,14 @@ module _ (base floor head : ℕ) (roots : List (List ℕ)) (ns : List Named) (re
       version-refused fmt (standing_listed base floor head roots ns) read numbered (floor + 1 + step) (omega arith) (omega arith) old (before_step old begun) (subst (λ d. Continues old d → IsSound fmt (with_commit d old) → ⊥) is refused)
 
 -- the names that are taken are gone, and no others
-pub names-later : (ns : List Named) (floor step : ℕ) (es fs : List (ℕ × List NodeName))
+pub names-later : (ns : List NamedNode) (floor step : ℕ) (es fs : List (ℕ × List NodeName))
     → ((w : ℕ) → names_beside w fs ≡ (if w == floor + 1 + step then [] else names_beside w es)) → ((w : ℕ) → floor + step < w → w < not_stale → names_beside w es ≡ map (λ n. n.0) (stale_nodes_at w ns))
-    → (w : ℕ) → floor + (step + 1) < w → w < not_stale → names_beside w fs ≡ map (λ (n : Named). n.0) (stale_nodes_at w ns)
+    → (w : ℕ) → floor + (step + 1) < w → w < not_stale → names_beside w fs ≡ map (λ (n : NamedNode). n.0) (stale_nodes_at w ns)
 names-later ns floor step es fs taken beside w late last =
     taken w ∙ ap (λ b. cond b [] (names_beside w es)) (other_number w (floor + 1 + step) (λ is. omega arith)) ∙ beside w (omega arith) last
 
 -- after the last step all versions have landed
-pub all-landed : (base floor head : ℕ) (roots : List (List ℕ)) (ns : List Named) (step : ℕ) → floor ≤ head → step ≡ head - floor → list_all (has_numbers floor head) ns ≡ true → (t : Standing) → t ≡ standing_by (floor + step) (standing_listed base floor head roots ns) → t ≡ standing_listed base floor head roots ns
+pub all-landed : (base floor head : ℕ) (roots : List (List ℕ)) (ns : List NamedNode) (step : ℕ) → floor ≤ head → step ≡ head - floor → list_all (has_numbers floor head) ns ≡ true → (t : Standing) → t ≡ standing_by (floor + step) (standing_listed base floor head roots ns) → t ≡ standing_listed base floor head roots ns
 all-landed base floor head roots ns step low is numbered t begun =
     begun
     ∙ ap (λ w. standing_by w (standing_listed base floor head roots ns)) (let e : floor + step ≡ head = omega arith in e)
@@ -127,7 +127,7 @@ pub numbers-refused : (fmt : Format) (s : Standing) → list_all (has_numbers s.
 numbers-refused fmt s failed sound = true≢false (sym (numbered-all s.floor s.head s.nodes (sound-numbered fmt s sound)) ∙ failed)
 
 -- each step lands what has a spelling
-pub step-spelled : (fmt : Format) (base floor head : ℕ) (roots : List (List ℕ)) (ns : List Named) (read : IsReadStanding (standing_listed base floor head roots ns)) (step : ℕ) → step < head - floor → length ns < 2 ^ 64 → AllByRecursion (IsSpelled fmt) ns → IsCommit fmt (landing_making (floor + 1 + step) (standing_listed base floor head roots ns))
+pub step-spelled : (fmt : Format) (base floor head : ℕ) (roots : List (List ℕ)) (ns : List NamedNode) (read : IsReadStanding (standing_listed base floor head roots ns)) (step : ℕ) → step < head - floor → length ns < 2 ^ 64 → AllByRecursion (IsSpelled fmt) ns → IsCommit fmt (landing_making (floor + 1 + step) (standing_listed base floor head roots ns))
 step-spelled fmt base floor head roots ns read step below few spelled =
     let last = read.head_last in
     let low = read.base_low in

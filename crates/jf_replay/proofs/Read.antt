@@ -15,7 +15,7 @@ use Rattle.jf_hash.proofs.MapLaws.{value_after, same_map, get-apply-sorted}
 use Rattle.jf_model.specs.Nodes.{under, is_node, plain_node}
 use Rattle.jf_codec.specs.declared.format.Format.{Format}
 use Rattle.jf_payload.specs.declared.records.Commit.{Commit}
-use Rattle.jf_standing.specs.Named.{Named, alive_nodes_at, is_alive, is_at, leaf_entry, version_at}
+use Rattle.jf_standing.specs.Named.{NamedNode, alive_nodes_at, is_alive, is_at, leaf_entry, version_at}
 use Rattle.jf_standing.specs.Standing.{Standing, with_commit, is_named}
 use Rattle.jf_standing.specs.Sound.{IsSound, is_counted}
 use Rattle.jf_standing.specs.Taking.{Continues}
@@ -60,20 +60,20 @@ leaves_at-which m (x ∷ names) e has = elim (Contains-append_cases (sole (under
 -- ---- a sound landing
 module _ (fmt : Format) (s : Standing) (c : Commit) (sound : IsSound fmt s) (goes : Continues s c) (after : IsSound fmt (with_commit c s)) where
   -- a node that stands and is named by the landing is alive at the head
-  named_alive : (n : Named) → Contains s.nodes n → Contains c.stale n.0 → Contains (alive_nodes_at s.head s.nodes) n
+  named_alive : (n : NamedNode) → Contains s.nodes n → Contains c.stale n.0 → Contains (alive_nodes_at s.head s.nodes) n
   named_alive n stood named = Contains-filter (is_alive s.head) s.nodes n stood (named_was fmt s c sound goes after n stood (named-so n.0 c.stale named)).0
 
   -- a name that the landing marks stale is that of a node that stands
-  stood : (name : NodeName) → Contains c.stale name → (n : Named) × Contains s.nodes n × (n.0 ≡ name)
-  stood name has = map-which (λ (n : Named). n.0) s.nodes name (named-tells name (map (λ (n : Named). n.0) s.nodes) (All-of _ c.stale name goes.stale_known has))
+  stood : (name : NodeName) → Contains c.stale name → (n : NamedNode) × Contains s.nodes n × (n.0 ≡ name)
+  stood name has = map-which (λ (n : NamedNode). n.0) s.nodes name (named-tells name (map (λ (n : NamedNode). n.0) s.nodes) (All-of _ c.stale name goes.stale_known has))
 
   -- a node alive at the head is the node of the head's map at its path
-  node_of_head : (n : Named) → Contains (alive_nodes_at s.head s.nodes) n → n.1 ≡ plain_node (is_counted fmt) (λ i. version_at s.head s.nodes (n.0.path ++ i ∷ [])) (length n.0.path) (under 0 n.0.path (entries (head_map s)))
+  node_of_head : (n : NamedNode) → Contains (alive_nodes_at s.head s.nodes) n → n.1 ≡ plain_node (is_counted fmt) (λ i. version_at s.head s.nodes (n.0.path ++ i ∷ [])) (length n.0.path) (under 0 n.0.path (entries (head_map s)))
   node_of_head n alive = All-of _ (alive_nodes_at s.head s.nodes) n (sound.versions s.head sound.floor_low (omega arith)).nodes alive
 
   stale_listed : (e : List ℕ × List ℕ) → Contains (stale_leaves s c) e → Contains (leaves_at (head_map s) c.stale) e
   stale_listed e has =
-      let test = λ (n : Named). is_named n.0 c.stale in
+      let test = λ (n : NamedNode). is_named n.0 c.stale in
       let n = leaf-which (filter test s.nodes) e has in
       let named = named-tells n.0.0 c.stale (filter-passes test s.nodes n.0 n.1) in
       let alive = named_alive n.0 (filter-Contains test s.nodes n.0 n.1) named in
@@ -81,7 +81,7 @@ module _ (fmt : Format) (s : Standing) (c : Commit) (sound : IsSound fmt s) (goe
 
   listed_stale : (e : List ℕ × List ℕ) → Contains (leaves_at (head_map s) c.stale) e → Contains (stale_leaves s c) e
   listed_stale e has =
-      let test = λ (n : Named). is_named n.0 c.stale in
+      let test = λ (n : NamedNode). is_named n.0 c.stale in
       let name = leaves_at-which (head_map s) c.stale e has in
       let n = stood name.0 name.1 in
       let named = subst (λ k. Contains c.stale k) (sym n.2) name.1 in

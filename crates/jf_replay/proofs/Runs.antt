@@ -5,18 +5,18 @@ use Rattle.std.specs.List.Sorted.{IsNonDecreasingBy, IsPartitionPoint, IsPartiti
 use Rattle.std.proofs.lemmas.List.Sorted.{IsPartitionedBy-leb}
 use Rattle.jf_path.specs.Names.{are_rising}
 use Rattle.jf_path.proofs.ListLaws.{All-by_place}
-use Rattle.jf_standing.specs.Named.{Named, written_nodes_at}
+use Rattle.jf_standing.specs.Named.{NamedNode, written_nodes_at}
 use Rattle.jf_replay.specs.Cuts.{is_written_by}
 use Rattle.jf_replay.proofs.CutLands.{rising-versions, later_rise, split-written}
 
-versions_rise : (ns : List Named) → IsTrue (are_rising (map (λ n. n.0) ns)) → IsNonDecreasingBy (λ n. n.0.version) ns
+versions_rise : (ns : List NamedNode) → IsTrue (are_rising (map (λ n. n.0) ns)) → IsNonDecreasingBy (λ n. n.0.version) ns
 versions_rise [] rises i j d le lt = absurd (omega arith)
 versions_rise (n ∷ ns) rises zero zero d le lt = omega arith
 versions_rise (n ∷ ns) rises zero (suc j) d le lt = All-by_place (λ m. n.0.version ≤ m.0.version) ns (rising-versions n ns rises) j d (omega arith)
 versions_rise (n ∷ ns) rises (suc i) zero d le lt = absurd (omega arith)
 versions_rise (n ∷ ns) rises (suc i) (suc j) d le lt = versions_rise ns (later_rise n ns rises) i j d (omega arith) (omega arith)
 
-pub parted : (w : ℕ) (ns : List Named) → IsTrue (are_rising (map (λ n. n.0) ns)) → IsPartitionedBy (is_written_by w) ns
+pub parted : (w : ℕ) (ns : List NamedNode) → IsTrue (are_rising (map (λ n. n.0) ns)) → IsPartitionedBy (is_written_by w) ns
 parted w ns rises = IsPartitionedBy-leb (λ n. n.0.version) ns w (versions_rise ns rises)
 
 -- the elements before a partition point are those that pass
@@ -45,7 +45,7 @@ take_of_drop (suc i) zero xs le = absurd (omega arith)
 take_of_drop (suc i) (suc j) [] le = take-nothing (suc j - suc i)
 take_of_drop (suc i) (suc j) (x ∷ xs) le = ap (λ k. take k (drop i xs)) (let e : suc j - suc i ≡ j - i = omega arith in e) ∙ take_of_drop i j xs (omega arith)
 
-module _ (w : ℕ) (ns : List Named) (some : 1 ≤ w) (rises : IsTrue (are_rising (map (λ n. n.0) ns))) (i j : ℕ) (before : take i ns ≡ filter (is_written_by (w - 1)) ns) (upto : take j ns ≡ filter (is_written_by w) ns) (i_within : i ≤ length ns) (j_within : j ≤ length ns) where
+module _ (w : ℕ) (ns : List NamedNode) (some : 1 ≤ w) (rises : IsTrue (are_rising (map (λ n. n.0) ns))) (i j : ℕ) (before : take i ns ≡ filter (is_written_by (w - 1)) ns) (upto : take j ns ≡ filter (is_written_by w) ns) (i_within : i ≤ length ns) (j_within : j ≤ length ns) where
   both : take j ns ≡ take i ns ++ written_nodes_at w ns
   both = upto ∙ split-written w ns some rises ∙ ap (λ t. t ++ written_nodes_at w ns) (sym before)
 

@@ -4,14 +4,14 @@ use Rattle.std.specs.List.{AllByRecursion}
 use Rattle.std.proofs.lemmas.Bool.{eq-eqb}
 use Rattle.jf_store.specs.Passes.{Store, Pass}
 use Rattle.jf_answers.specs.Explains.{IsAmong, text_in}
-use Rattle.jf_history.specs.Serving.{Served, AreServed, scripts_of, replies_of, passes_of}
+use Rattle.jf_history.specs.Serving.{SessionOutcome, AreServed, scripts_of, replies_of, passes_of}
 use Rattle.jf_history.specs.declared.end.End.{End}
 use Rattle.jf_history.proofs.Announced.{among-front, among-back}
 use Rattle.jf_serve.specs.Served.{max_output, ran_out_of_memory, out_of_memory_from}
 use Rattle.jf_serve.specs.Ran.{IsSessionEnd, HaveRunFrom}
 
 -- how they ended
-abbrev pub ends_of : List Served → List End
+abbrev pub ends_of : List SessionOutcome → List End
 ends_of ss = map (λ s. s.how) ss
 
 -- ---- those that ran out of memory
@@ -33,7 +33,7 @@ out_of_memory_later n e es k h = elim (ran_out_of_memory e) as (λ (b : Bool). I
 
 -- the sessions from number n on, of which these are the scripts, ends, texts and passes
 pub record IsRunOf (store : Store) (out_of_memory : List ℕ) (n : ℕ) (scripts : List (List (List ℕ))) (es : List End) (ts : List (List ℕ)) (ps : List Pass) : Type 0 where
-  pub ss : List Served
+  pub ss : List SessionOutcome
   pub served : AreServed store out_of_memory n ss
   pub scripts_are : scripts_of ss ≡ scripts
   pub ends_are : ends_of ss ≡ es
@@ -53,7 +53,7 @@ run_of store out_of_memory n (script ∷ scripts) (e ∷ es) [] ps all h = absur
 run_of store out_of_memory n (script ∷ scripts) (e ∷ es) (t ∷ ts) [] all h = absurd h
 run_of store out_of_memory n (script ∷ scripts) (e ∷ es) (t ∷ ts) (p ∷ ps) all h =
     let rest = run_of store out_of_memory (n + 1) scripts es ts ps (λ k later. all k (out_of_memory_later n e es k later)) h.1 in
-    let one : Served = record { script = script; how = e; replies = h.0.replies; pass = p } in
+    let one : SessionOutcome = record { script = script; how = e; replies = h.0.replies; pass = p } in
     record {
       ss = one ∷ rest.ss;
       served = (h.0.served out_of_memory (λ memory. all n (out_of_memory_here n e es memory)), rest.served);

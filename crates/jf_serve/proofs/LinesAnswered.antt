@@ -4,7 +4,7 @@ use Rattle.std.proofs.Math.Seq.{drop-append-add, take-append_seam}
 use Rattle.std.specs.Prelude.{slice_get}
 use Rattle.std.specs.List.{AllByRecursion}
 use Rattle.jf_store.specs.Passes.{Store, Pass, IsPassOf, new_pass}
-use Rattle.jf_answers.specs.Explains.{Answered, next_line, text_in}
+use Rattle.jf_answers.specs.Explains.{LineReply, next_line, text_in}
 use Rattle.jf_history.specs.Sessions.{Session, HoldsPins, new_session, HasReplied, IsTry, IsBroken, HasDoneNothing}
 use Rattle.jf_history.specs.Runs.{HasAnswered, EndsBy}
 use Rattle.jf_history.specs.Serving.{LosesReplies}
@@ -24,12 +24,12 @@ slice_get-seam [] x ys = refl
 slice_get-seam (y ∷ xs) x ys = slice_get-seam xs x ys
 
 -- of one reply more than these, it alone is lost
-loses_last : (rs : List Answered) (r : Answered) → LosesReplies (rs ++ r ∷ []) rs
+loses_last : (rs : List LineReply) (r : LineReply) → LosesReplies (rs ++ r ∷ []) rs
 loses_last rs r = record {
   count = length rs;
   within = omega (arith, length-append rs (r ∷ []));
   told_are = sym (take-append_seam rs (r ∷ []));
-  quiet = subst (AllByRecursion (λ (x : Answered). x.entry ≡ None)) (sym (drop-append-add rs (r ∷ []) 1)) tt;
+  quiet = subst (AllByRecursion (λ (x : LineReply). x.entry ≡ None)) (sym (drop-append-add rs (r ∷ []) 1)) tt;
 }
 
 -- ---- the lines done
@@ -38,7 +38,7 @@ loses_last rs r = record {
 pub record GoesThrough (store : Store) (n : ℕ) (script left : List (List ℕ)) (now : Session) (text : List ℕ) : Type 0 where
   pub done : List (List ℕ)
   pub split : script ≡ done ++ left
-  pub replies : List Answered
+  pub replies : List LineReply
   pub answered : HasAnswered store.start (new_pass store n) now done replies
   pub text_is : text ≡ text_in replies
   pub short : length text ≤ max_output
@@ -97,11 +97,11 @@ module _ {store : Store} {n : ℕ} {script left : List (List ℕ)} {now : Sessio
         ∙ ap (λ (k : ℕ). slice_get (f.done ++ line ∷ left') k) f.answered.all
         ∙ slice_get-seam f.done line left'
 
-    answered_more : (new : Session) (r : Answered) → HasReplied store.start now new line r → HasAnswered store.start (new_pass store n) new (f.done ++ line ∷ []) (f.replies ++ r ∷ [])
+    answered_more : (new : Session) (r : LineReply) → HasReplied store.start now new line r → HasAnswered store.start (new_pass store n) new (f.done ++ line ∷ []) (f.replies ++ r ∷ [])
     answered_more new r replied = one_more_answered store.start (new_pass store n) now new f.done f.replies line r f.answered replied
 
     -- it was answered
-    pub through_more : (new : Session) (r : Answered) (text' : List ℕ) → HasReplied store.start now new line r → text' ≡ text ++ r.text → new.over ≡ false → IsPassOf new.pass store → length text' ≤ max_output → GoesThrough store n script left' new text'
+    pub through_more : (new : Session) (r : LineReply) (text' : List ℕ) → HasReplied store.start now new line r → text' ≡ text ++ r.text → new.over ≡ false → IsPassOf new.pass store → length text' ≤ max_output → GoesThrough store n script left' new text'
     through_more new r text' replied is over own short = record {
       done = f.done ++ line ∷ [];
       split = split_more;
@@ -114,7 +114,7 @@ module _ {store : Store} {n : ℕ} {script left : List (List ℕ)} {now : Sessio
     }
 
     -- it was answered, and memory ran out before its reply was written
-    ran_untold : (new : Session) (r : Answered) → HasReplied store.start now new line r → HasRunSession store n script end.Memory text new.pass
+    ran_untold : (new : Session) (r : LineReply) → HasReplied store.start now new line r → HasRunSession store n script end.Memory text new.pass
     ran_untold new r replied = record {
       replies = f.replies;
       text_is = f.text_is;
@@ -161,7 +161,7 @@ module _ {store : Store} {n : ℕ} {script left : List (List ℕ)} {now : Sessio
       };
     }
 
-    pub ran_stopped : (why : Stop) (new : Session) → (why ≡ stop.DiskFault → IsTry store.start now new line) → (why ≡ stop.Broken → IsBroken now new line) → (why ≡ stop.Memory → HasDoneNothing now new line ⊎ ((r : Answered) × HasReplied store.start now new line r))
+    pub ran_stopped : (why : Stop) (new : Session) → (why ≡ stop.DiskFault → IsTry store.start now new line) → (why ≡ stop.Broken → IsBroken now new line) → (why ≡ stop.Memory → HasDoneNothing now new line ⊎ ((r : LineReply) × HasReplied store.start now new line r))
         → HasRunSession store n script (end_of_stop why) text new.pass
     ran_stopped stop.DiskFault new fault broken memory = ran_to end.DiskFault new tt (λ is. let never : end.DiskFault ≡ end.Done = is in cc) (line, refl, fault refl)
     ran_stopped stop.Broken new fault broken memory = ran_to end.Broken new tt (λ is. let never : end.Broken ≡ end.Done = is in cc) (line, refl, broken refl)

@@ -17,10 +17,10 @@ use Rattle.jf_store.specs.Closing.{IsClosed, AreAllPasses, ArePassesOf}
 use Rattle.jf_store.proofs.EventLaws.{attempt_of-front, attempt_of-legal, for_attempt}
 use Rattle.jf_answers.specs.Own.{begun_session}
 use Rattle.jf_answers.specs.OwnLines.{is_own_line}
-use Rattle.jf_answers.specs.Explains.{Timeline, Answered, IsAttempt, next_line, own_after_replies, text_in, timeline_of}
+use Rattle.jf_answers.specs.Explains.{Timeline, LineReply, IsAttempt, next_line, own_after_replies, text_in, timeline_of}
 use Rattle.jf_history.specs.Runs.{EndsBy}
 use Rattle.jf_history.specs.Sparing.{SparesPinsSince}
-use Rattle.jf_history.specs.Serving.{Served, IsServed, AreServed, FailedIn, scripts_of, replies_of, passes_of}
+use Rattle.jf_history.specs.Serving.{SessionOutcome, IsServed, AreServed, FailedIn, scripts_of, replies_of, passes_of}
 use Rattle.jf_history.specs.Alone.{ServedAlone}
 use Rattle.jf_history.specs.Laws.{ClosedExplains, ClosedTries, ClosedBlames, ClosedSparesPins, OneServedIsAlone}
 use Rattle.jf_history.specs.declared.end.End.{End}
@@ -28,20 +28,20 @@ use Rattle.jf_history.specs.declared.end.End.TheVariants as end
 use Rattle.jf_history.proofs.Closed.{pass_there}
 use Rattle.jf_session.proofs.SamePass.{IsSamePass, same_of, same_further, same_by, own_after}
 use Rattle.jf_serve.specs.Served.{max_output, ran_out_of_memory, out_of_memory_in, IsEndOf, AreEnded, ArePinsSpared, IsAloneIn, HasServed}
-use Rattle.jf_serve.specs.Ran.{IsSessionEnd, Gathered, HaveRunSessions}
+use Rattle.jf_serve.specs.Ran.{IsSessionEnd, SessionResults, HaveRunSessions}
 use Rattle.jf_serve.proofs.AllServed.{ends_of, IsRunOf, run_of}
 
 -- ---- passes
 
 module _ (store : Store) (out_of_memory : List ℕ) where
   -- its pass is the one that it began with, and has seen more
-  same_pass : (n : ℕ) (s : Served) → IsServed store out_of_memory n s → IsSamePass (new_pass store n) s.pass
+  same_pass : (n : ℕ) (s : SessionOutcome) → IsServed store out_of_memory n s → IsSamePass (new_pass store n) s.pass
   same_pass n s served =
       subst (IsSamePass (new_pass store n)) (sym served.pass_is)
       (same_further (new_pass store n) served.mid.pass served.last.pass (same_of (new_pass store n) served.mid.pass served.answered.same) (same_by s.how store.start served.mid served.last served.next served.ends))
 
   -- so they are passes of the store
-  pub all_own : (n : ℕ) (ss : List Served) → AreServed store out_of_memory n ss → ArePassesOf store (passes_of ss)
+  pub all_own : (n : ℕ) (ss : List SessionOutcome) → AreServed store out_of_memory n ss → ArePassesOf store (passes_of ss)
   all_own n [] served p has = absurd (maybe.some-ne-none p (sym has.1))
   all_own n (s ∷ ss) served p has = elim (has_cons s.pass (passes_of ss) p has) as (λ o. IsPassOf p store) [
     | inl same ↦ subst (λ (q : Pass). IsPassOf q store) same (own_after store (new_pass store n) s.pass (refl, refl) (same_pass n s served.0))
@@ -49,14 +49,14 @@ module _ (store : Store) (out_of_memory : List ℕ) where
   ]
 
   -- and one of them has each number
-  pub all_there : (n : ℕ) (ss : List Served) → AreServed store out_of_memory n ss → (k : ℕ) → k < length ss → (p : Pass) × HasElement (passes_of ss) p × (p.number ≡ n + k)
+  pub all_there : (n : ℕ) (ss : List SessionOutcome) → AreServed store out_of_memory n ss → (k : ℕ) → k < length ss → (p : Pass) × HasElement (passes_of ss) p × (p.number ≡ n + k)
   all_there n [] served k lt = absurd (omega arith)
   all_there n (s ∷ ss) served zero lt = (s.pass, (0, refl), (same_pass n s served.0).2 ∙ omega arith)
   all_there n (s ∷ ss) served (suc k) lt = let r = all_there (n + 1) ss served.1 k (omega arith) in (r.0, (suc r.1.0, r.1.1), r.2 ∙ omega arith)
 
 -- ---- one session
 
-module _ (store : Store) (out_of_memory : List ℕ) (n : ℕ) (s : Served) (served : IsServed store out_of_memory n s) where
+module _ (store : Store) (out_of_memory : List ℕ) (n : ℕ) (s : SessionOutcome) (served : IsServed store out_of_memory n s) where
   -- unless it ran out of memory, all replies that it had were written
   told_all : ran_out_of_memory s.how ≡ false → s.replies ≡ served.had
   told_all enough = elim served.told as (λ o. s.replies ≡ served.had) [
@@ -67,7 +67,7 @@ module _ (store : Store) (out_of_memory : List ℕ) (n : ℕ) (s : Served) (serv
   -- one that ended well answered all lines
   all_answered : s.how ≡ end.Done → length s.replies ≡ length s.script
   all_answered well =
-      ap (λ (rs : List Answered). length rs) (told_all (ap ran_out_of_memory well))
+      ap (λ (rs : List LineReply). length rs) (told_all (ap ran_out_of_memory well))
       ∙ served.answered.all
       ∙ sym (ap (λ (ls : List (List ℕ)). length ls) (served.first ∙ ap (λ (ls : List (List ℕ)). served.done ++ ls) (served.whole well) ∙ append-nil served.done))
 
@@ -87,7 +87,7 @@ module _ (store : Store) (out_of_memory : List ℕ) (n : ℕ) (s : Served) (serv
 
 -- ---- one session alone
 -- it is that of a session by itself
-alone_served : (store : Store) → OneServedIsAlone → (all : List Served) (entries : List Entry) (engine : Engine) → store.start.passes ≡ length all → (closed : IsClosed store.start (passes_of all) entries engine)
+alone_served : (store : Store) → OneServedIsAlone → (all : List SessionOutcome) (entries : List Entry) (engine : Engine) → store.start.passes ≡ length all → (closed : IsClosed store.start (passes_of all) entries engine)
     → AreServed store (out_of_memory_in (ends_of all)) 0 all → AllByRecursion (λ s. IsSessionEnd s.how) all → store.start.state.count ≡ 0 → IsAloneIn store.start.state (scripts_of all) (map text_in (replies_of all)) (ends_of all) entries (attempt_of closed.events)
 alone_served store lone [] entries engine passes closed served fine none = λ script is. absurd (let no : [] ≡ script ∷ [] = is in cc)
 alone_served store lone (s ∷ []) entries engine passes closed served fine none = λ script is.
@@ -104,7 +104,7 @@ alone_served store lone (s ∷ t ∷ ss) entries engine passes closed served fin
 
 -- ---- all sessions of a store that was closed
 
-module _ (store : Store) (all : List Served) (entries : List Entry) (engine : Engine) (passes : store.start.passes ≡ length all) (closed : IsClosed store.start (passes_of all) entries engine) (served : AreServed store (out_of_memory_in (ends_of all)) 0 all) where
+module _ (store : Store) (all : List SessionOutcome) (entries : List Entry) (engine : Engine) (passes : store.start.passes ≡ length all) (closed : IsClosed store.start (passes_of all) entries engine) (served : AreServed store (out_of_memory_in (ends_of all)) 0 all) where
   abbrev out_of_memory : List ℕ
   out_of_memory = out_of_memory_in (ends_of all)
 
@@ -115,24 +115,24 @@ module _ (store : Store) (all : List Served) (entries : List Entry) (engine : En
   attempt = attempt_of closed.events
 
   -- the mark that a session met is in the history
-  marked_attempt : (s : Served) → HasElement (passes_of all) s.pass → is_marked s.pass.seen ≡ true → (e : Entry) × (attempt ≡ Some e)
+  marked_attempt : (s : SessionOutcome) → HasElement (passes_of all) s.pass → is_marked s.pass.seen ≡ true → (e : Entry) × (attempt ≡ Some e)
   marked_attempt s there marked =
       let begins = closed.seen s.pass there in
       let a = attempt_of-front s.pass.seen begins.0 marked in
       (a.0, ap attempt_of begins.1 ∙ a.1)
 
-  there_in : (before after : List Served) (s : Served) → all ≡ before ++ s ∷ after → HasElement (passes_of all) s.pass
-  there_in before after s split = subst (λ (xs : List Served). HasElement (passes_of xs) s.pass) (sym split) (pass_there before s after)
+  there_in : (before after : List SessionOutcome) (s : SessionOutcome) → all ≡ before ++ s ∷ after → HasElement (passes_of all) s.pass
+  there_in before after s split = subst (λ (xs : List SessionOutcome). HasElement (passes_of xs) s.pass) (sym split) (pass_there before s after)
 
   -- ---- how they ended
-  fault_tried : ClosedTries → (before after : List Served) (s : Served) → all ≡ before ++ s ∷ after → s.how ≡ end.DiskFault → (e : Entry) × (attempt ≡ Some e) × IsAttempt h (length before) s.script s.replies e
+  fault_tried : ClosedTries → (before after : List SessionOutcome) (s : SessionOutcome) → all ≡ before ++ s ∷ after → s.how ≡ end.DiskFault → (e : Entry) × (attempt ≡ Some e) × IsAttempt h (length before) s.script s.replies e
   fault_tried tries before after s split fault =
       subst
-      (λ (xs : List Served). store.start.passes ≡ length xs → (c : IsClosed store.start (passes_of xs) entries engine) → AreServed store out_of_memory 0 xs
+      (λ (xs : List SessionOutcome). store.start.passes ≡ length xs → (c : IsClosed store.start (passes_of xs) entries engine) → AreServed store out_of_memory 0 xs
       → (e : Entry) × (attempt_of c.events ≡ Some e) × IsAttempt (timeline_of store.start.state entries (scripts_of xs)) (length before) s.script s.replies e)
       (sym split) (λ many c are. tries store before after s out_of_memory entries engine many c are fault) passes closed served
 
-  end_is : ClosedTries → (before after : List Served) (s : Served) → all ≡ before ++ s ∷ after → IsServed store out_of_memory (length before) s → (how : End) → s.how ≡ how → IsSessionEnd how → IsEndOf h attempt (length before) s.script s.replies how
+  end_is : ClosedTries → (before after : List SessionOutcome) (s : SessionOutcome) → all ≡ before ++ s ∷ after → IsServed store out_of_memory (length before) s → (how : End) → s.how ≡ how → IsSessionEnd how → IsEndOf h attempt (length before) s.script s.replies how
   end_is tries before after s split one end.Done is fine = all_answered store out_of_memory (length before) s one is
   end_is tries before after s split one end.ReadFault is fine = absurd fine
   end_is tries before after s split one end.WriteFault is fine = absurd fine
@@ -142,13 +142,13 @@ module _ (store : Store) (all : List Served) (entries : List Entry) (engine : En
       (a.0, a.1, broken_asks store out_of_memory (length before) s one is)
   end_is tries before after s split one end.Memory is fine = tt
 
-  one_further : (before after : List Served) (s : Served) → all ≡ before ++ s ∷ after → all ≡ (before ++ s ∷ []) ++ after
+  one_further : (before after : List SessionOutcome) (s : SessionOutcome) → all ≡ before ++ s ∷ after → all ≡ (before ++ s ∷ []) ++ after
   one_further before after s split = split ∙ sym (append_assoc before (s ∷ []) after)
 
-  one_longer : (before : List Served) (s : Served) (n : ℕ) → n ≡ length before → n + 1 ≡ length (before ++ s ∷ [])
+  one_longer : (before : List SessionOutcome) (s : SessionOutcome) (n : ℕ) → n ≡ length before → n + 1 ≡ length (before ++ s ∷ [])
   one_longer before s n at = omega (arith, length-append before (s ∷ []))
 
-  ended_from : ClosedTries → (n : ℕ) (before after : List Served) → n ≡ length before → all ≡ before ++ after → AreServed store out_of_memory n after → AllByRecursion (λ s. IsSessionEnd s.how) after → AreEnded h attempt n (scripts_of after) (replies_of after) (ends_of after)
+  ended_from : ClosedTries → (n : ℕ) (before after : List SessionOutcome) → n ≡ length before → all ≡ before ++ after → AreServed store out_of_memory n after → AllByRecursion (λ s. IsSessionEnd s.how) after → AreEnded h attempt n (scripts_of after) (replies_of after) (ends_of after)
   ended_from tries n before [] at split are fine = tt
   ended_from tries n before (s ∷ after) at split are fine = (
     subst (λ (k : ℕ). IsEndOf h attempt k s.script s.replies s.how) (sym at) (end_is tries before after s split (subst (λ (k : ℕ). IsServed store out_of_memory k s) at are.0) s.how refl fine.0),
@@ -156,13 +156,13 @@ module _ (store : Store) (all : List Served) (entries : List Entry) (engine : En
   )
 
   -- ---- what they have pinned
-  pins_spared : ClosedSparesPins → (before after : List Served) (s : Served) → all ≡ before ++ s ∷ after → IsServed store out_of_memory (length before) s → (g : History) → engine.history ≡ Some g → ran_out_of_memory s.how ≡ false
+  pins_spared : ClosedSparesPins → (before after : List SessionOutcome) (s : SessionOutcome) → all ≡ before ++ s ∷ after → IsServed store out_of_memory (length before) s → (g : History) → engine.history ≡ Some g → ran_out_of_memory s.how ≡ false
       → SparesPinsSince store.start.moment g (own_after_replies (begun_session (length before)) s.replies)
   pins_spared spares before after s split one g told enough =
-      subst (λ (rs : List Answered). SparesPinsSince store.start.moment g (own_after_replies (begun_session (length before)) rs)) (sym (told_all store out_of_memory (length before) s one enough))
-      (spares store before after s out_of_memory entries engine (subst (λ (xs : List Served). IsClosed store.start (passes_of xs) entries engine) split closed) one g told)
+      subst (λ (rs : List LineReply). SparesPinsSince store.start.moment g (own_after_replies (begun_session (length before)) rs)) (sym (told_all store out_of_memory (length before) s one enough))
+      (spares store before after s out_of_memory entries engine (subst (λ (xs : List SessionOutcome). IsClosed store.start (passes_of xs) entries engine) split closed) one g told)
 
-  spared_from : ClosedSparesPins → (g : History) → engine.history ≡ Some g → (n : ℕ) (before after : List Served) → n ≡ length before → all ≡ before ++ after → AreServed store out_of_memory n after → ArePinsSpared store.start.moment g n (replies_of after) (ends_of after)
+  spared_from : ClosedSparesPins → (g : History) → engine.history ≡ Some g → (n : ℕ) (before after : List SessionOutcome) → n ≡ length before → all ≡ before ++ after → AreServed store out_of_memory n after → ArePinsSpared store.start.moment g n (replies_of after) (ends_of after)
   spared_from spares g told n before [] at split are = tt
   spared_from spares g told n before (s ∷ after) at split are = (
     subst (λ (k : ℕ). ran_out_of_memory s.how ≡ false → SparesPinsSince store.start.moment g (own_after_replies (begun_session k) s.replies)) (sym at)
@@ -171,12 +171,12 @@ module _ (store : Store) (all : List Served) (entries : List Entry) (engine : En
   )
 
   -- ---- where the disk failed
-  end_at : (before after : List Served) (s : Served) (how : End) → s.how ≡ how → slice_get (ends_of (before ++ s ∷ after)) (length before) ≡ Some how
+  end_at : (before after : List SessionOutcome) (s : SessionOutcome) (how : End) → s.how ≡ how → slice_get (ends_of (before ++ s ∷ after)) (length before) ≡ Some how
   end_at [] after s how is = ap (λ e. Some e) is
   end_at (x ∷ before) after s how is = end_at before after s how is
 
   fault_there : (e : Entry) → FailedIn store.start.state entries all e → (n : ℕ) × (slice_get (ends_of all) n ≡ Some end.DiskFault)
-  fault_there e f = (length f.before, ap (λ (xs : List Served). slice_get (ends_of xs) (length f.before)) f.split ∙ end_at f.before f.after f.failed end.DiskFault f.fault)
+  fault_there e f = (length f.before, ap (λ (xs : List SessionOutcome). slice_get (ends_of xs) (length f.before)) f.split ∙ end_at f.before f.after f.failed end.DiskFault f.fault)
 
   -- ---- the whole
   served_closed : ClosedExplains → ClosedTries → ClosedBlames → ClosedSparesPins → OneServedIsAlone → AllByRecursion (λ s. IsSessionEnd s.how) all → AllByRecursion (λ t. length t ≤ max_output) (map text_in (replies_of all))
@@ -199,7 +199,7 @@ module _ (store : Store) (all : List Served) (entries : List Entry) (engine : En
 
 -- ---- what was gathered
 
-module _ (store : Store) (scripts : List (List (List ℕ))) (g : Gathered) (ran : HaveRunSessions store 0 scripts g) where
+module _ (store : Store) (scripts : List (List (List ℕ))) (g : SessionResults) (ran : HaveRunSessions store 0 scripts g) where
   abbrev run : IsRunOf store (out_of_memory_in g.ends) 0 scripts g.ends g.texts g.passes
   run = run_of store (out_of_memory_in g.ends) 0 scripts g.ends g.texts g.passes (λ k h. h) ran
 
@@ -207,7 +207,7 @@ module _ (store : Store) (scripts : List (List (List ℕ))) (g : Gathered) (ran 
   passes_own = subst (ArePassesOf store) run.passes_are (all_own store (out_of_memory_in g.ends) 0 run.ss run.served)
 
   as_many : length scripts ≡ length run.ss
-  as_many = sym (ap (λ (xs : List (List (List ℕ))). length xs) run.scripts_are) ∙ length-map run.ss (λ (s : Served). s.script)
+  as_many = sym (ap (λ (xs : List (List (List ℕ))). length xs) run.scripts_are) ∙ length-map run.ss (λ (s : SessionOutcome). s.script)
 
   pub passes_all : store.start.passes ≡ length scripts → AreAllPasses store g.passes
   passes_all many n below =

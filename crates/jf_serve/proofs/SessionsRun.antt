@@ -4,7 +4,7 @@ use Rattle.std.proofs.lemmas.List.{map-append, length-map}
 use Rattle.jf_io.specs.Lines.{lines}
 use Rattle.jf_store.specs.Passes.{Store, Pass, AreNewPasses, new_pass}
 use Rattle.jf_history.specs.declared.end.End.{End}
-use Rattle.jf_serve.specs.Ran.{HasRunSession, HaveRunFrom, HaveRunSessions, Gathered, none_gathered, one_more_gathered}
+use Rattle.jf_serve.specs.Ran.{HasRunSession, HaveRunFrom, HaveRunSessions, SessionResults, none_gathered, one_more_gathered}
 
 -- of new passes, those before the last are new, and the last has the number after theirs
 new_before : (s : Store) (ps : List Pass) (p : Pass) (n : ℕ) → AreNewPasses s (ps ++ p ∷ []) n → AreNewPasses s ps n
@@ -67,7 +67,7 @@ module _ (store : Store) (passes rest : List Pass) (pass : Pass) (scripts others
   rest_room room le = let few = fewer in omega arith
 
   -- the results of the others leave room for the last one
-  pub room_left : (room : ℕ) (g : Gathered) → length passes ≤ room → g.room ≡ room → HaveRunSessions store 0 (map lines others) g → length g.passes < g.room
+  pub room_left : (room : ℕ) (g : SessionResults) → length passes ≤ room → g.room ≡ room → HaveRunSessions store 0 (map lines others) g → length g.passes < g.room
   room_left room g le same ran =
       let few = fewer in
       let many : length g.passes ≡ length rest = as_many_passes store 0 (map lines others) g.ends g.texts g.passes ran ∙ length-map others lines ∙ as_many in
@@ -83,7 +83,7 @@ module _ (store : Store) (passes rest : List Pass) (pass : Pass) (scripts others
   last_new = last_is ∙ ap (new_pass store) (sym last_number)
 
   -- the results of the others, and what the last one did
-  pub ran_all : (g : Gathered) (how : End) (text : List ℕ) (after : Pass) → HaveRunSessions store 0 (map lines others) g → HasRunSession store pass.number (lines script) how text after → HaveRunSessions store 0 (map lines scripts) (one_more_gathered g how text after)
+  pub ran_all : (g : SessionResults) (how : End) (text : List ℕ) (after : Pass) → HaveRunSessions store 0 (map lines others) g → HasRunSession store pass.number (lines script) how text after → HaveRunSessions store 0 (map lines scripts) (one_more_gathered g how text after)
   ran_all g how text after before last =
       let number : pass.number ≡ 0 + length (map lines others) = last_number ∙ sym (length-map others lines ∙ as_many) ∙ omega arith in
       let scripts_are : map lines others ++ lines script ∷ [] ≡ map lines scripts = sym (ap (map lines) cut ∙ map-append lines others (script ∷ [])) in

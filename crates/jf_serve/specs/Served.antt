@@ -11,7 +11,7 @@ use Rattle.jf_store.specs.Starts.{Start}
 use Rattle.jf_store.specs.Kept.{IsKept}
 use Rattle.jf_answers.specs.Own.{begun_session}
 use Rattle.jf_answers.specs.OwnLines.{is_own_line}
-use Rattle.jf_answers.specs.Explains.{Timeline, Answered, ExplainsAnswers, IsAttempt, next_line, own_after_replies, text_in, timeline_of}
+use Rattle.jf_answers.specs.Explains.{Timeline, LineReply, ExplainsAnswers, IsAttempt, next_line, own_after_replies, text_in, timeline_of}
 use Rattle.jf_history.specs.Alone.{ServedAlone}
 use Rattle.jf_history.specs.Sparing.{SparesPinsSince}
 use Rattle.jf_history.specs.declared.end.End.{End}
@@ -41,7 +41,7 @@ out_of_memory_in es = out_of_memory_from 0 es
 
 -- how session n ended, by its script and its replies; `attempt` is what was tried when the disk failed. It ends at a disk that
 -- failed in an earlier call only at a line that asks the store
-abbrev pub IsEndOf : Timeline → Option Entry → ℕ → List (List ℕ) → List Answered → End → Type 0
+abbrev pub IsEndOf : Timeline → Option Entry → ℕ → List (List ℕ) → List LineReply → End → Type 0
 IsEndOf h attempt n script rs end.Done = length rs ≡ length script
 IsEndOf h attempt n script rs end.ReadFault = ⊥
 IsEndOf h attempt n script rs end.WriteFault = ⊥
@@ -50,7 +50,7 @@ IsEndOf h attempt n script rs end.Broken = (e : Entry) × (attempt ≡ Some e) �
 IsEndOf h attempt n script rs end.Memory = Unit {0}
 
 -- how sessions ended, from number n on
-abbrev pub AreEnded : Timeline → Option Entry → ℕ → List (List (List ℕ)) → List (List Answered) → List End → Type 0
+abbrev pub AreEnded : Timeline → Option Entry → ℕ → List (List (List ℕ)) → List (List LineReply) → List End → Type 0
 AreEnded h attempt n [] [] [] = Unit {0}
 AreEnded h attempt n [] [] (e ∷ es) = ⊥
 AreEnded h attempt n [] (rs ∷ rss) es = ⊥
@@ -60,7 +60,7 @@ AreEnded h attempt n (script ∷ scripts) (rs ∷ rss) (e ∷ es) = IsEndOf h at
 
 -- each image left since a moment represents versions of which the floor is above no version that a session has pinned after
 -- its replies; of a session that ran out of memory, whose last replies may be missing, nothing is said
-abbrev pub ArePinsSpared : ℕ → History → ℕ → List (List Answered) → List End → Type 0
+abbrev pub ArePinsSpared : ℕ → History → ℕ → List (List LineReply) → List End → Type 0
 ArePinsSpared moment h n [] es = Unit {0}
 ArePinsSpared moment h n (rs ∷ rss) [] = ⊥
 ArePinsSpared moment h n (rs ∷ rss) (e ∷ es) = (ran_out_of_memory e ≡ false → SparesPinsSince moment h (own_after_replies (begun_session n) rs)) × ArePinsSpared moment h (n + 1) rss es
@@ -75,7 +75,7 @@ IsAloneIn s scripts outputs ends entries attempt = (script : List (List ℕ)) �
 -- engine is the result of the entries. No output has more bytes than it may have
 pub record HasServed (start : Start) (scripts : List (List (List ℕ))) (outputs : List (List ℕ)) (ends : List End) (entries : List Entry) (engine : Engine) : Type 0 where
   pub attempt : Option Entry
-  pub replies : List (List Answered)
+  pub replies : List (List LineReply)
   pub outputs_are : outputs ≡ map text_in replies
   pub short : AllByRecursion (λ t. length t ≤ max_output) outputs
   pub explained : ExplainsAnswers start.state entries scripts replies (out_of_memory_in ends)

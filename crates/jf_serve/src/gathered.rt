@@ -25,9 +25,9 @@ impl<D: Disk> Model for Gathered<D> {
     ghost use Rattle.std.specs.Prelude.{◌≡◌, ◌≤◌, length, vec_capacity};
     ghost use Rattle.std.specs.Coded.{codes};
     ghost use Rattle.jf_hash.specs.Codes.{map_code};
-    ghost use Rattle.jf_serve.specs.Ran.{Gathered};
+    ghost use Rattle.jf_serve.specs.Ran.{SessionResults};
 
-    ghost Value = { Gathered };
+    ghost Value = { SessionResults };
 
     ghost coded = { Prim.hlevel (codes, map_code) };
 

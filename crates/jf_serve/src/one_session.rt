@@ -2,7 +2,7 @@
 ghost use Rattle.std.specs.Prelude.{◌≡◌, ◌⊎◌, ◌≤◌, ◌++◌, [], length, false, Err, IfErr, OnErr, OnOk};
 ghost use Rattle.jf_io.specs.Lines.{lines};
 ghost use Rattle.jf_store.specs.Passes.{IsPassOf, new_pass};
-ghost use Rattle.jf_answers.specs.Explains.{Answered};
+ghost use Rattle.jf_answers.specs.Explains.{LineReply};
 ghost use Rattle.jf_history.specs.Sessions.{HasDoneNothing, HasReplied, HoldsPins, IsBroken, IsTry, new_session};
 ghost use Rattle.jf_session.specs.Taking.{end_of_stop};
 ghost use Rattle.jf_serve.specs.Served.{max_output};
@@ -87,13 +87,13 @@ fn answer_line<D: Disk, H: Threads + Wait + Sync, G: Gate>(
     requires own { IsPassOf session.old.pass store.now }
     requires over { session.old.over ≡ false }
     ensures own { IsPassOf session.new.pass store.now }
-    ensures ok { OnOk result ((r : Answered) × HasReplied store.now.start session.old session.new line.now r × (text.new ≡ text.old ++ r.text)) }
+    ensures ok { OnOk result ((r : LineReply) × HasReplied store.now.start session.old session.new line.now r × (text.new ≡ text.old ++ r.text)) }
     ensures short { OnOk result (length text.new ≤ max_output) }
     ensures goes_on { OnOk result (session.new.over ≡ false) }
     ensures silent { OnErr result (text.new ≡ text.old) }
     ensures fault { result ≡ Err Stop.DiskFault → IsTry store.now.start session.old session.new line.now }
     ensures broken { result ≡ Err Stop.Broken → IsBroken session.old session.new line.now }
-    ensures memory { result ≡ Err Stop.Memory → HasDoneNothing session.old session.new line.now ⊎ ((r : Answered) × HasReplied store.now.start session.old session.new line.now r) }
+    ensures memory { result ≡ Err Stop.Memory → HasDoneNothing session.old session.new line.now ⊎ ((r : LineReply) × HasReplied store.now.start session.old session.new line.now r) }
 {
     let told = text.len();
     session.step(rt, alloc, store, line, workers, gate, text)?;

@@ -14,7 +14,7 @@ use Rattle.jf_answers.specs.Answers.{Answer, answer}
 use Rattle.jf_answers.proofs.AnswerLaws.{answer-both_long}
 use Rattle.jf_answers.specs.Runs.{answer_text}
 use Rattle.jf_answers.specs.OwnLines.{is_own_line, is_own, pin_of, pin_of_command}
-use Rattle.jf_answers.specs.Explains.{Timeline, Answered, IsAnswered, Looks, HasAnsweredChange, GivesEntry, answered_with_floor, answer_with, floor_in, state_after}
+use Rattle.jf_answers.specs.Explains.{Timeline, LineReply, IsAnswered, IsQuietReply, HasAnsweredChange, GivesEntry, answered_with_floor, answer_with, floor_in, state_after}
 use Rattle.jf_history.specs.Sessions.{Session, FollowsLine, HasReplied, IsTry, HasDoneNothing}
 use Rattle.jf_session.specs.declared.stop.Stop.{Stop}
 use Rattle.jf_session.specs.declared.stop.Stop.TheVariants as stop
@@ -51,7 +51,7 @@ module _ (line other : List ℕ) (k : AreAlike line other) where
   gives_alike : (h : Timeline) (s : State) (own : Own) (e : Entry) → GivesEntry h s own line e → GivesEntry h s own other e
   gives_alike h s own e g = record { same = sym (ap (λ (a : Answer). a.entry) (with_alike (floor_in e) s own)) ∙ g.same; floor = g.floor }
 
-  looks_alike : (h : Timeline) (own : Own) (seen : ℕ) (r : Answered) → Looks h own seen line r → Looks h own seen other r
+  looks_alike : (h : Timeline) (own : Own) (seen : ℕ) (r : LineReply) → IsQuietReply h own seen line r → IsQuietReply h own seen other r
   looks_alike h own seen r l =
       let e = k.answers (state_after h r.number) own in
       record {
@@ -62,7 +62,7 @@ module _ (line other : List ℕ) (k : AreAlike line other) where
         by_itself = λ own. l.by_itself (k.asks ∙ own);
       }
 
-  changes_alike : (h : Timeline) (own : Own) (seen : ℕ) (r : Answered) → HasAnsweredChange h own seen line r → HasAnsweredChange h own seen other r
+  changes_alike : (h : Timeline) (own : Own) (seen : ℕ) (r : LineReply) → HasAnsweredChange h own seen line r → HasAnsweredChange h own seen other r
   changes_alike h own seen r c =
       let e = with_alike (floor_in c.event) (state_after h (r.number - 1)) own in
       record {
@@ -76,11 +76,11 @@ module _ (line other : List ℕ) (k : AreAlike line other) where
         own_after = c.own_after ∙ ap (λ (a : Answer). a.own) e;
       }
 
-  answered_alike : (h : Timeline) (own : Own) (seen : ℕ) (r : Answered) → IsAnswered h own seen line r → IsAnswered h own seen other r
+  answered_alike : (h : Timeline) (own : Own) (seen : ℕ) (r : LineReply) → IsAnswered h own seen line r → IsAnswered h own seen other r
   answered_alike h own seen r a = record { rises = a.rises; within = a.within; answered = elim a.answered [ inl l ↦ inl (looks_alike h own seen r l) | inr c ↦ inr (changes_alike h own seen r c) ] }
 
   module _ (start : Start) (s new : Session) where
-    replied_alike : (r : Answered) → HasReplied start s new line r → HasReplied start s new other r
+    replied_alike : (r : LineReply) → HasReplied start s new line r → HasReplied start s new other r
     replied_alike r t = record {
       follows = follows_alike s.pass new.pass t.follows;
       unmarked = t.unmarked;

@@ -2,7 +2,7 @@
 use Rattle.std.proofs.Common.{◌≡◌, inl, inr, ℕ, Option, Some, None, option_map, List, [], ◌∷◌, ◌++◌, length, refl, sym, ap, ◌∙◌, subst, arith, append_assoc, append-nil, length-append}
 use Rattle.std.specs.Prelude.{Result, Ok, Err, option_to_list}
 use Rattle.jf_io.specs.Sink.{IsCutShort}
-use Rattle.jf_input.specs.Feeds.{Appends, GoesOnQuietly, Took, EndsAtLine, EndsAfter, Fed, ReadsLinesOf}
+use Rattle.jf_input.specs.Feeds.{Appends, GoesOnQuietly, Took, EndsAtLine, EndsAfter, HasFed, ReadsLinesOf}
 use Rattle.jf_input.specs.declared.feeding.Feeding.{Feeding}
 use Rattle.jf_input.specs.declared.feeding.Feeding.TheVariants as feeding
 use Rattle.jf_input.proofs.FirstRead.{lines_of_few}
@@ -10,7 +10,7 @@ use Rattle.jf_io.proofs.FirstLines.{all_first}
 use Rattle.jf_io.proofs.Written.{written_more}
 use Rattle.jf_store.specs.Starts.{Start}
 use Rattle.jf_store.specs.Passes.{Pass}
-use Rattle.jf_answers.specs.Explains.{Answered, text_in}
+use Rattle.jf_answers.specs.Explains.{LineReply, text_in}
 use Rattle.jf_history.specs.Sessions.{Session, HasReplied, new_session}
 use Rattle.jf_history.specs.Runs.{HasAnswered, EndsBy, ReadsBy, HasReadInput, HasRunOver, WritesBy}
 use Rattle.jf_history.specs.declared.end.End.{End}
@@ -29,13 +29,13 @@ module _ (start : Start) (old : Pass) (begun : old.start ≡ Some start) (none :
 
   -- lines were taken, and this was written of them
   record IsSaid (m : Session) (ds : List (List ℕ)) (so_far : Option (List ℕ)) : Type 0 where
-    replies : List Answered
+    replies : List LineReply
     answered : HasAnswered start old m ds replies
     said : List ℕ
     said_is : said ≡ text_in replies
     written : Appends text so_far said
 
-  known : (m : Session) (ds : List (List ℕ)) (rs : List Answered) → HasAnswered start old m ds rs → m.pass.start ≡ Some start
+  known : (m : Session) (ds : List (List ℕ)) (rs : List LineReply) → HasAnswered start old m ds rs → m.pass.start ≡ Some start
   known m ds rs a = ap (λ (p : Pass). p.start) a.same ∙ begun
 
   is_said : (m : Session) (ds : List (List ℕ)) (so_far : Option (List ℕ)) (said : List ℕ) → Took AnswersLine (new_session old) ds m said → Appends text so_far said → IsSaid m ds so_far
@@ -100,7 +100,7 @@ module _ (start : Start) (old : Pass) (begun : old.start ≡ Some start) (none :
   }
 
   -- nor of one that was done before memory ran out
-  unwritten : (m new : Session) (ds : List (List ℕ)) (so_far : Option (List ℕ)) (line : List ℕ) (r : Answered) → IsSaid m ds so_far → HasReplied start m new line r → text' ≡ so_far → ReadsLinesOf rest rest' (ds ++ line ∷ []) → RanTo end.Memory new
+  unwritten : (m new : Session) (ds : List (List ℕ)) (so_far : Option (List ℕ)) (line : List ℕ) (r : LineReply) → IsSaid m ds so_far → HasReplied start m new line r → text' ≡ so_far → ReadsLinesOf rest rest' (ds ++ line ∷ []) → RanTo end.Memory new
   unwritten m new ds so_far line r s t same reads = record {
     done = ds ++ line ∷ [];
     replies = s.replies ++ r ∷ [];
@@ -119,7 +119,7 @@ module _ (start : Start) (old : Pass) (begun : old.start ≡ Some start) (none :
   }
 
   -- a front of the reply to a line was written, and later lines had been answered too
-  cut_in : (m mid new : Session) (ds : List (List ℕ)) (so_far : Option (List ℕ)) (line t : List ℕ) (later : List (List ℕ)) (r : Answered) → IsSaid m ds so_far → HasReplied start m mid line r → t ≡ r.text → IsCutShort so_far text' t
+  cut_in : (m mid new : Session) (ds : List (List ℕ)) (so_far : Option (List ℕ)) (line t : List ℕ) (later : List (List ℕ)) (r : LineReply) → IsSaid m ds so_far → HasReplied start m mid line r → t ≡ r.text → IsCutShort so_far text' t
       → GoesOnQuietly AnswersLine StaysQuiet mid later new → ReadsLinesOf rest rest' (ds ++ line ∷ later) → RanTo end.WriteFault new
   cut_in m mid new ds so_far line t later r s replied text_is c quietly reads =
       let ls = ds ++ line ∷ [] in
@@ -152,7 +152,7 @@ module _ (start : Start) (old : Pass) (begun : old.start ≡ Some start) (none :
   ]
 
   -- ---- by how it was fed
-  ran_fed : (how : Feeding Stop) (new : Session) → Fed AnswersLine AnswersEnd StaysQuiet piece how (new_session old) new rest rest' text text' → RanTo (end_of_feeding how) new
+  ran_fed : (how : Feeding Stop) (new : Session) → HasFed AnswersLine AnswersEnd StaysQuiet piece how (new_session old) new rest rest' text text' → RanTo (end_of_feeding how) new
   ran_fed feeding.Done new f =
       let s = is_said f.mid f.done f.text_so_far f.said f.took f.written in
       elim f.ended [
@@ -236,7 +236,7 @@ module _ (start : Start) (old : Pass) (begun : old.start ≡ Some start) (none :
     end_shown feeding.Memory m new told told' e = e
     end_shown (feeding.Stopped why) m new told told' e = e
 
-    fed_shown : (how : Feeding Stop) (m new : M) → Fed Takes Ends Quiet piece how m new rest rest' text text' → Fed AnswersLine AnswersEnd StaysQuiet piece how (shown m) (shown new) rest rest' text text'
+    fed_shown : (how : Feeding Stop) (m new : M) → HasFed Takes Ends Quiet piece how m new rest rest' text text' → HasFed AnswersLine AnswersEnd StaysQuiet piece how (shown m) (shown new) rest rest' text text'
     fed_shown how m new f = record {
       done = f.done;
       mid = shown f.mid;
@@ -254,8 +254,8 @@ module _ (start : Start) (old : Pass) (begun : old.start ≡ Some start) (none :
     }
 
     -- a machine that shows a new session of a pass runs to the pass of the one that it shows in the end
-    pub ran_shown : (how : Feeding Stop) (m new : M) → shown m ≡ new_session old → Fed Takes Ends Quiet piece how m new rest rest' text text' → RanTo (end_of_feeding how) (shown new)
-    ran_shown how m new is f = ran_fed how (shown new) (subst (λ (s : Session). Fed AnswersLine AnswersEnd StaysQuiet piece how s (shown new) rest rest' text text') is (fed_shown how m new f))
+    pub ran_shown : (how : Feeding Stop) (m new : M) → shown m ≡ new_session old → HasFed Takes Ends Quiet piece how m new rest rest' text text' → RanTo (end_of_feeding how) (shown new)
+    ran_shown how m new is f = ran_fed how (shown new) (subst (λ (s : Session). HasFed AnswersLine AnswersEnd StaysQuiet piece how s (shown new) rest rest' text text') is (fed_shown how m new f))
 
 -- ---- what ended it
 pub read_fault_of : (how : Feeding Stop) → end_of_feeding how ≡ end.ReadFault → how ≡ feeding.ReadFault

@@ -2,7 +2,7 @@
 use Rattle.std.proofs.Common.{◌≡◌, inl, inr, ℕ, Bool, Option, None, List, [], ◌∷◌, ◌++◌, refl, sym, ap, ap₂, ◌∙◌, subst, append-nil, Some}
 use Rattle.std.specs.Prelude.{Result, Ok, Err}
 use Rattle.jf_path.proofs.OptionLaws.{some_same}
-use Rattle.jf_input.specs.Feeds.{Took, EndsAtLine, EndsAfter, Fed}
+use Rattle.jf_input.specs.Feeds.{Took, EndsAtLine, EndsAfter, HasFed}
 use Rattle.jf_input.specs.FeedsThrough.{IsPutThrough, GoesThrough}
 use Rattle.jf_input.specs.declared.feeding.Feeding.{Feeding}
 use Rattle.jf_input.specs.declared.feeding.Feeding.TheVariants as feeding
@@ -76,7 +76,7 @@ module _ {M : Type 0} (shown : M → Session) (piece : ℕ) where
   end_answers (feeding.Stopped why) m new told told' e = e
 
   -- as the answers of a session, of whose text nothing is known
-  fed_answers : (how : Feeding Stop) (m new : M) (rest rest' : Option (List ℕ)) → (how ≡ feeding.WriteFault → ⊥) → Fed Takes Ends Quiet piece how m new rest rest' None None → Fed AnswersLine AnswersEnd StaysQuiet piece how (shown m) (shown new) rest rest' None None
+  fed_answers : (how : Feeding Stop) (m new : M) (rest rest' : Option (List ℕ)) → (how ≡ feeding.WriteFault → ⊥) → HasFed Takes Ends Quiet piece how m new rest rest' None None → HasFed AnswersLine AnswersEnd StaysQuiet piece how (shown m) (shown new) rest rest' None None
   fed_answers how m new rest rest' on f =
       let t = took_answers m f.mid f.done f.said f.took in
       let none : f.text_so_far ≡ None = f.written in

@@ -6,7 +6,7 @@ use Rattle.jf_input.specs.Feeds.{front_of_line}
 use Rattle.jf_store.specs.Starts.{Start}
 use Rattle.jf_store.specs.Ledgers.{AreEvents}
 use Rattle.jf_store.specs.Passes.{Store, IsPassOf}
-use Rattle.jf_answers.specs.Explains.{Answered}
+use Rattle.jf_answers.specs.Explains.{LineReply}
 use Rattle.jf_history.specs.Sessions.{Session, HasReplied, IsTry, IsBroken, HasDoneNothing}
 use Rattle.jf_session.specs.Taking.{AnswersLine, DoesLine, MayStep}
 use Rattle.jf_session.specs.declared.stop.Stop.{Stop}
@@ -16,8 +16,8 @@ use Rattle.jf_session.proofs.SamePass.{same_replied, own_after}
 
 -- ---- from the call's clauses
 module _ (start : Start) (s new : Session) (line out out' : List ℕ) (is : s.pass.start ≡ Some start) (begun : s.over ≡ false) (events : AreEvents start new.pass.seen) where
-  pub steps_of : (r : Result (Unit {0}) Stop) → OnOk r ((a : Answered) × HasReplied start s new line a × (out' ≡ out ++ a.text)) → OnOk r (new.over ≡ false) → OnErr r (out' ≡ out) → OnErr r (new.over ≡ true)
-      → (r ≡ Err stop.DiskFault → IsTry start s new line) → (r ≡ Err stop.Broken → IsBroken s new line) → (r ≡ Err stop.Memory → HasDoneNothing s new line ⊎ ((a : Answered) × HasReplied start s new line a)) → DoesLine s line out r new out'
+  pub steps_of : (r : Result (Unit {0}) Stop) → OnOk r ((a : LineReply) × HasReplied start s new line a × (out' ≡ out ++ a.text)) → OnOk r (new.over ≡ false) → OnErr r (out' ≡ out) → OnErr r (new.over ≡ true)
+      → (r ≡ Err stop.DiskFault → IsTry start s new line) → (r ≡ Err stop.Broken → IsBroken s new line) → (r ≡ Err stop.Memory → HasDoneNothing s new line ⊎ ((a : LineReply) × HasReplied start s new line a)) → DoesLine s line out r new out'
   steps_of (Ok done) ok on silent over fault broken memory = (ok.0.text, ok.2, record { start = start; start_is = is; begun = begun; over = on; events = events; makes = (ok.0, ok.1, refl) })
   steps_of (Err stop.DiskFault) ok on silent over fault broken memory = (silent, record { start = start; start_is = is; begun = begun; over = over; events = events; makes = fault refl })
   steps_of (Err stop.Broken) ok on silent over fault broken memory = (silent, record { start = start; start_is = is; begun = begun; over = over; events = events; makes = broken refl })

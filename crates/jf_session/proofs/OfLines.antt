@@ -21,7 +21,7 @@ use Rattle.jf_answers.specs.Own.{Own}
 use Rattle.jf_answers.specs.Answers.{Answer, answer, answer_command, answer_to, own_answer, too_long}
 use Rattle.jf_answers.specs.Runs.{answer_text}
 use Rattle.jf_answers.specs.OwnLines.{is_own_line, is_own, is_own_command, pin_of, pin_of_command}
-use Rattle.jf_answers.specs.Explains.{Timeline, Answered, GivesEntry, answered_with_floor, answer_with, floor_in}
+use Rattle.jf_answers.specs.Explains.{Timeline, LineReply, GivesEntry, answered_with_floor, answer_with, floor_in}
 use Rattle.jf_history.specs.Sessions.{Session, HoldsPins, FollowsLine, HasReplied, HasLooked, HasChanged, IsTry, HasDoneNothing, look_reply, change_reply, seen_by}
 use Rattle.jf_answers.proofs.AnswerLaws.{answer-long}
 use Rattle.jf_history.proofs.Replies.{looks_reply, changes_reply}
@@ -163,7 +163,7 @@ holds_ended : (s : Session) → HoldsPins s → HoldsPins (stopped_session s)
 holds_ended s h = record { versions = h.versions; eight = h.eight; board = h.board }
 
 module _ (start : Start) (old new : Session) (line : List ℕ) where
-  pub replied_ended : (r : Answered) → HasReplied start old new line r → HasReplied start old (stopped_session new) line r
+  pub replied_ended : (r : LineReply) → HasReplied start old new line r → HasReplied start old (stopped_session new) line r
   replied_ended r t = record {
     follows = t.follows;
     unmarked = t.unmarked;

@@ -13,7 +13,7 @@ use Rattle.jf_store.specs.Events.{pass_named_by, entries_among, is_marked}
 use Rattle.jf_store.specs.Starts.{Start}
 use Rattle.jf_store.specs.Passes.{Pass, OthersAlone, SeesOwn}
 use Rattle.jf_store.proofs.EventLaws.{entries_of-append}
-use Rattle.jf_answers.specs.Explains.{Answered, places_owned}
+use Rattle.jf_answers.specs.Explains.{LineReply, places_owned}
 use Rattle.jf_history.specs.Sessions.{Session, HasReplied, IsTry, entry_place, seen_by}
 use Rattle.jf_history.proofs.Places.{places_append, places_on}
 
@@ -35,7 +35,7 @@ pub try_is_own : (start : Start) (s new : Session) (line : List ℕ) → IsTry s
 try_is_own start s new line t others = own_is_seen s.pass new.pass t.before (Mark s.pass.number t.attempt) t.sees refl others
 
 -- and a line that gave an entry isn't either
-pub quiet_none : (start : Start) (s new : Session) (line : List ℕ) (r : Answered) → HasReplied start s new line r → OthersAlone s.pass new.pass.seen → r.entry ≡ None
+pub quiet_none : (start : Start) (s new : Session) (line : List ℕ) (r : LineReply) → HasReplied start s new line r → OthersAlone s.pass new.pass.seen → r.entry ≡ None
 quiet_none start s new line r t others =
     let xs = places_owned s.pass.number 0 (seen_by s.pass) in
     let same : xs ++ entry_place r ≡ xs = sym t.places ∙ places_on s.pass new.pass.seen t.follows.begins others in

@@ -8,7 +8,7 @@ use Rattle.jf_store.specs.Starts.{Start}
 use Rattle.jf_store.specs.Ledgers.{AreEvents}
 use Rattle.jf_answers.specs.Own.{Own}
 use Rattle.jf_answers.specs.Answers.{Answer, answer}
-use Rattle.jf_answers.specs.Explains.{Timeline, Answered, IsAnswered, GivesEntry, answered_with_floor, floor_in, places_owned}
+use Rattle.jf_answers.specs.Explains.{Timeline, LineReply, IsAnswered, GivesEntry, answered_with_floor, floor_in, places_owned}
 use Rattle.jf_history.specs.Sessions.{Session, HasReplied, seen_by, entry_place}
 use Rattle.jf_session.specs.Taking.{Makes, AnswersLine, StaysQuiet}
 use Rattle.jf_session.specs.declared.stop.Stop.{Stop}
@@ -28,10 +28,10 @@ module _ (line : List ℕ) (none : GivesNone line) where
       let same = sym (ap (λ (a : Answer). a.entry) plain ∙ none s own) ∙ g.same in
       absurd (cc)
 
-  replied_none : (h : Timeline) (own : Own) (seen : ℕ) (r : Answered) → IsAnswered h own seen line r → r.entry ≡ None
+  replied_none : (h : Timeline) (own : Own) (seen : ℕ) (r : LineReply) → IsAnswered h own seen line r → r.entry ≡ None
   replied_none h own seen r a = elim a.answered [ inl l ↦ l.none | inr c ↦ absurd (gives_none _ _ own c.event c.gives) ]
 
-  replied_quiet : (start : Start) (s new : Session) (r : Answered) → AreEvents start new.pass.seen → HasReplied start s new line r → StaysQuiet s new
+  replied_quiet : (start : Start) (s new : Session) (r : LineReply) → AreEvents start new.pass.seen → HasReplied start s new line r → StaysQuiet s new
   replied_quiet start s new r events t =
       let no_entry = replied_none _ _ _ r (t.answered (floors_of new.pass.seen) (met_floors start new.pass.seen events)) in
       let no_place : entry_place r ≡ [] = ap (λ (o : Option Entry). cond (is_some o) (r.number ∷ []) []) no_entry in

@@ -2,22 +2,22 @@
 use Rattle.std.proofs.Common.{◌≡◌, ℕ, ◌-◌, None, List, [], ◌∷◌, ◌++◌, take, length, refl, sym, ap, ap₂, ◌∙◌, subst, arith, append_assoc, append-nil, length-append, take_at}
 use Rattle.std.specs.List.{AllByRecursion}
 use Rattle.std.proofs.Math.Seq.{drop-append_seam, take-append_seam}
-use Rattle.jf_answers.specs.Explains.{Answered, text_in}
+use Rattle.jf_answers.specs.Explains.{LineReply, text_in}
 use Rattle.jf_history.specs.Runs.{IsCut}
 
-pub text_in-append : (rs more : List Answered) → text_in (rs ++ more) ≡ text_in rs ++ text_in more
+pub text_in-append : (rs more : List LineReply) → text_in (rs ++ more) ≡ text_in rs ++ text_in more
 text_in-append [] more = refl
 text_in-append (r ∷ rs) more = ap (λ t. r.text ++ t) (text_in-append rs more) ∙ sym (append_assoc r.text (text_in rs) (text_in more))
 
-pub text_in-push : (rs : List Answered) (r : Answered) → text_in (rs ++ r ∷ []) ≡ text_in rs ++ r.text
+pub text_in-push : (rs : List LineReply) (r : LineReply) → text_in (rs ++ r ∷ []) ≡ text_in rs ++ r.text
 text_in-push rs r = text_in-append rs (r ∷ []) ∙ ap (λ t. text_in rs ++ t) (append-nil r.text)
 
 -- one reply more, without the last
-pub all_but_last : (rs : List Answered) (r : Answered) → take (length (rs ++ r ∷ []) - 1) (rs ++ r ∷ []) ≡ rs
+pub all_but_last : (rs : List LineReply) (r : LineReply) → take (length (rs ++ r ∷ []) - 1) (rs ++ r ∷ []) ≡ rs
 all_but_last rs r = take_at rs (r ∷ []) (length (rs ++ r ∷ []) - 1) (omega (arith, length-append rs (r ∷ [])))
 
 -- a front of one of the replies was written, and none of those after it, whose lines gave no entry
-pub cut_is_cut : (rs : List Answered) (r : Answered) (more : List Answered) (said front missing : List ℕ) → said ≡ text_in rs → front ++ missing ≡ r.text → AllByRecursion (λ r. r.entry ≡ None) more
+pub cut_is_cut : (rs : List LineReply) (r : LineReply) (more : List LineReply) (said front missing : List ℕ) → said ≡ text_in rs → front ++ missing ≡ r.text → AllByRecursion (λ r. r.entry ≡ None) more
     → IsCut ((rs ++ r ∷ []) ++ more) (said ++ front)
 cut_is_cut rs r more said front missing is whole none =
     let ls = rs ++ r ∷ [] in

@@ -2,7 +2,7 @@
 use Rattle.std.proofs.Common.{◌≡◌, ℕ, Option, Some, None, List, ap, sym, ◌∙◌, subst}
 use Rattle.jf_store.specs.Starts.{Start}
 use Rattle.jf_store.specs.Passes.{Store, Pass, IsPassOf}
-use Rattle.jf_answers.specs.Explains.{Answered}
+use Rattle.jf_answers.specs.Explains.{LineReply}
 use Rattle.jf_history.specs.Sessions.{Session, HasReplied, IsTry, HasDoneNothing}
 use Rattle.jf_history.specs.Runs.{EndsBy, IsAtRest, HasRunOver}
 use Rattle.jf_history.specs.declared.end.End.{End}
@@ -21,7 +21,7 @@ same_of old new e = (ap (λ (p : Pass). p.store) e, ap (λ (p : Pass). p.start) 
 pub same_further : (old mid new : Pass) → IsSamePass old mid → IsSamePass mid new → IsSamePass old new
 same_further old mid new s t = (t.0 ∙ s.0, t.1 ∙ s.1, t.2 ∙ s.2)
 
-pub same_replied : (start : Start) (s new : Session) (line : List ℕ) (r : Answered) → HasReplied start s new line r → IsSamePass s.pass new.pass
+pub same_replied : (start : Start) (s new : Session) (line : List ℕ) (r : LineReply) → HasReplied start s new line r → IsSamePass s.pass new.pass
 same_replied start s new line r t = same_of s.pass new.pass t.follows.same
 
 pub same_idle : (s new : Session) (line : List ℕ) → HasDoneNothing s new line → IsSamePass s.pass new.pass

@@ -7,7 +7,7 @@ use Rattle.jf_io.specs.LinesRead.{lines_read, AreFirst}
 use Rattle.jf_input.specs.Feeds.{GoesOnQuietly, Took, HasRead, ReadsLinesOf}
 use Rattle.jf_store.specs.Starts.{Start}
 use Rattle.jf_store.specs.Passes.{Pass}
-use Rattle.jf_answers.specs.Explains.{Answered, text_in}
+use Rattle.jf_answers.specs.Explains.{LineReply, text_in}
 use Rattle.jf_history.specs.Sessions.{Session, HasReplied, HasDoneNothing}
 use Rattle.jf_history.specs.Runs.{HasAnswered, IsAtRest}
 use Rattle.jf_history.proofs.Steps.{one_more_answered}
@@ -28,15 +28,15 @@ stopped m new (line ∷ ls) over w = let begun = w.2.begun in absurd (cc)
 module _ (start : Start) (old : Pass) where
   -- ---- lines with their replies
   -- lines were taken after others, and these are their replies, with their text
-  pub record HasTaken (new : Session) (ds ls : List (List ℕ)) (rs : List Answered) (said : List ℕ) : Type 0 where
-    pub replies : List Answered
+  pub record HasTaken (new : Session) (ds ls : List (List ℕ)) (rs : List LineReply) (said : List ℕ) : Type 0 where
+    pub replies : List LineReply
     pub answered : HasAnswered start old new (ds ++ ls) (rs ++ replies)
     pub text_is : said ≡ text_in replies
 
   -- lines were taken after others, and gave no entry; at the next, if one was started, nothing was done
-  pub record WentOn (new : Session) (ds : List (List ℕ)) (rs : List Answered) (later : List (List ℕ)) : Type 0 where
+  pub record WentOn (new : Session) (ds : List (List ℕ)) (rs : List LineReply) (later : List (List ℕ)) : Type 0 where
     pub more : List (List ℕ)
-    pub replies : List Answered
+    pub replies : List LineReply
     pub mid : Session
     pub next : Option (List ℕ)
     pub answered : HasAnswered start old mid (ds ++ more) (rs ++ replies)
@@ -44,19 +44,19 @@ module _ (start : Start) (old : Pass) where
     pub none : AllByRecursion (λ r. r.entry ≡ None) replies
     pub lines_are : later ≡ more ++ option_to_list next
 
-  none_more : (m : Session) (ds : List (List ℕ)) (rs : List Answered) → HasAnswered start old m ds rs → HasAnswered start old m (ds ++ []) (rs ++ [])
+  none_more : (m : Session) (ds : List (List ℕ)) (rs : List LineReply) → HasAnswered start old m ds rs → HasAnswered start old m (ds ++ []) (rs ++ [])
   none_more m ds rs a =
-      subst (λ (ls : List (List ℕ)). HasAnswered start old m ls (rs ++ [])) (sym (append-nil ds)) (subst (λ (qs : List Answered). HasAnswered start old m ds qs) (sym (append-nil rs)) a)
+      subst (λ (ls : List (List ℕ)). HasAnswered start old m ls (rs ++ [])) (sym (append-nil ds)) (subst (λ (qs : List LineReply). HasAnswered start old m ds qs) (sym (append-nil rs)) a)
 
-  one_before : (m : Session) (ds ls : List (List ℕ)) (line : List ℕ) (rs qs : List Answered) (r : Answered) → HasAnswered start old m ((ds ++ line ∷ []) ++ ls) ((rs ++ r ∷ []) ++ qs) → HasAnswered start old m (ds ++ line ∷ ls) (rs ++ r ∷ qs)
+  one_before : (m : Session) (ds ls : List (List ℕ)) (line : List ℕ) (rs qs : List LineReply) (r : LineReply) → HasAnswered start old m ((ds ++ line ∷ []) ++ ls) ((rs ++ r ∷ []) ++ qs) → HasAnswered start old m (ds ++ line ∷ ls) (rs ++ r ∷ qs)
   one_before m ds ls line rs qs r a =
-      subst (λ (x : List (List ℕ)). HasAnswered start old m x (rs ++ r ∷ qs)) (append_assoc ds (line ∷ []) ls) (subst (λ (x : List Answered). HasAnswered start old m ((ds ++ line ∷ []) ++ ls) x) (append_assoc rs (r ∷ []) qs) a)
+      subst (λ (x : List (List ℕ)). HasAnswered start old m x (rs ++ r ∷ qs)) (append_assoc ds (line ∷ []) ls) (subst (λ (x : List LineReply). HasAnswered start old m ((ds ++ line ∷ []) ++ ls) x) (append_assoc rs (r ∷ []) qs) a)
 
   -- ---- after a line that was left
-  at_rest : (m new : Session) (ds : List (List ℕ)) (rs : List Answered) (line : List ℕ) → HasAnswered start old m ds rs → HasDoneNothing m new line → WentOn new ds rs (line ∷ [])
+  at_rest : (m new : Session) (ds : List (List ℕ)) (rs : List LineReply) (line : List ℕ) → HasAnswered start old m ds rs → HasDoneNothing m new line → WentOn new ds rs (line ∷ [])
   at_rest m new ds rs line a idle = record { more = []; replies = []; mid = m; next = Some line; answered = none_more m ds rs a; rest = idle; none = tt; lines_are = refl }
 
-  at_reply : (m new : Session) (ds : List (List ℕ)) (rs : List Answered) (line : List ℕ) (r : Answered) → HasAnswered start old m ds rs → HasReplied start m new line r → r.entry ≡ None → WentOn new ds rs (line ∷ [])
+  at_reply : (m new : Session) (ds : List (List ℕ)) (rs : List LineReply) (line : List ℕ) (r : LineReply) → HasAnswered start old m ds rs → HasReplied start m new line r → r.entry ≡ None → WentOn new ds rs (line ∷ [])
   at_reply m new ds rs line r a t none = record {
     more = line ∷ [];
     replies = r ∷ [];
@@ -68,7 +68,7 @@ module _ (start : Start) (old : Pass) where
     lines_are = refl;
   }
 
-  reply_first : (m mid new : Session) (ds : List (List ℕ)) (rs : List Answered) (line : List ℕ) (ls : List (List ℕ)) (r : Answered) → r.entry ≡ None → WentOn new (ds ++ line ∷ []) (rs ++ r ∷ []) ls → WentOn new ds rs (line ∷ ls)
+  reply_first : (m mid new : Session) (ds : List (List ℕ)) (rs : List LineReply) (line : List ℕ) (ls : List (List ℕ)) (r : LineReply) → r.entry ≡ None → WentOn new (ds ++ line ∷ []) (rs ++ r ∷ []) ls → WentOn new ds rs (line ∷ ls)
   reply_first m mid new ds rs line ls r none w = record {
     more = line ∷ w.more;
     replies = r ∷ w.replies;
@@ -81,7 +81,7 @@ module _ (start : Start) (old : Pass) where
   }
 
   -- the last of the lines, at which the session stopped
-  stopped_at : (why : Stop) (m mid : Session) (ds : List (List ℕ)) (rs : List Answered) (line : List ℕ) → HasAnswered start old m ds rs → StaysQuiet m mid → Makes start m line mid (Err why) → WentOn mid ds rs (line ∷ [])
+  stopped_at : (why : Stop) (m mid : Session) (ds : List (List ℕ)) (rs : List LineReply) (line : List ℕ) → HasAnswered start old m ds rs → StaysQuiet m mid → Makes start m line mid (Err why) → WentOn mid ds rs (line ∷ [])
   stopped_at stop.DiskFault m mid ds rs line a quiet makes = absurd (try_is_own start m mid line makes quiet)
   stopped_at stop.Broken m mid ds rs line a quiet makes = at_rest m mid ds rs line a makes.idle
   stopped_at stop.Memory m mid ds rs line a quiet makes = elim makes [
@@ -90,18 +90,18 @@ module _ (start : Start) (old : Pass) where
   ]
 
   module _ (begun : old.start ≡ Some start) where
-    known : (m : Session) (ds : List (List ℕ)) (rs : List Answered) → HasAnswered start old m ds rs → m.pass.start ≡ Some start
+    known : (m : Session) (ds : List (List ℕ)) (rs : List LineReply) → HasAnswered start old m ds rs → m.pass.start ≡ Some start
     known m ds rs a = ap (λ (p : Pass). p.start) a.same ∙ begun
 
-    pub took_more : (m new : Session) (ds ls : List (List ℕ)) (rs : List Answered) (said : List ℕ) → HasAnswered start old m ds rs → Took AnswersLine m ls new said → HasTaken new ds ls rs said
+    pub took_more : (m new : Session) (ds ls : List (List ℕ)) (rs : List LineReply) (said : List ℕ) → HasAnswered start old m ds rs → Took AnswersLine m ls new said → HasTaken new ds ls rs said
     took_more m new ds [] rs said a w = record { replies = []; answered = subst (λ (s : Session). HasAnswered start old s (ds ++ []) (rs ++ [])) (sym w.0) (none_more m ds rs a); text_is = w.1 }
     took_more m new ds (line ∷ ls) rs said a w =
         let t = makes_at start m w.0 line (Ok w.1) (known m ds rs a) w.3 in
         let q = took_more w.0 new (ds ++ line ∷ []) ls (rs ++ t.0 ∷ []) w.2 (one_more_answered start old m w.0 ds rs line t.0 a t.1) w.4 in
         record { replies = t.0 ∷ q.replies; answered = one_before new ds ls line rs q.replies t.0 q.answered; text_is = w.5 ∙ ap₂ (λ x y. x ++ y) t.2 q.text_is }
 
-    went_line : (r : Result (List ℕ) Stop) (m mid new : Session) (ds : List (List ℕ)) (rs : List Answered) (line : List ℕ) (ls : List (List ℕ)) → HasAnswered start old m ds rs → AnswersLine m line mid r → StaysQuiet m mid → GoesOnQuietly AnswersLine StaysQuiet mid ls new
-        → ((es : List (List ℕ)) (qs : List Answered) → HasAnswered start old mid es qs → WentOn new es qs ls) → WentOn new ds rs (line ∷ ls)
+    went_line : (r : Result (List ℕ) Stop) (m mid new : Session) (ds : List (List ℕ)) (rs : List LineReply) (line : List ℕ) (ls : List (List ℕ)) → HasAnswered start old m ds rs → AnswersLine m line mid r → StaysQuiet m mid → GoesOnQuietly AnswersLine StaysQuiet mid ls new
+        → ((es : List (List ℕ)) (qs : List LineReply) → HasAnswered start old mid es qs → WentOn new es qs ls) → WentOn new ds rs (line ∷ ls)
     went_line (Ok text) m mid new ds rs line ls a takes quiet w rec =
         let t = makes_at start m mid line (Ok text) (known m ds rs a) takes in
         reply_first m mid new ds rs line ls t.0 (quiet_none start m mid line t.0 t.1 quiet) (rec (ds ++ line ∷ []) (rs ++ t.0 ∷ []) (one_more_answered start old m mid ds rs line t.0 a t.1))
@@ -111,7 +111,7 @@ module _ (start : Start) (old : Pass) where
         (subst (λ (s : Session). WentOn s ds rs (line ∷ [])) (sym e.1) (stopped_at why m mid ds rs line a quiet (makes_at start m mid line (Err why) (known m ds rs a) takes)))
 
     -- of lines that were quiet, only the last can have been left undone
-    pub went_on : (m new : Session) (ds : List (List ℕ)) (rs : List Answered) (ls : List (List ℕ)) → HasAnswered start old m ds rs → GoesOnQuietly AnswersLine StaysQuiet m ls new → WentOn new ds rs ls
+    pub went_on : (m new : Session) (ds : List (List ℕ)) (rs : List LineReply) (ls : List (List ℕ)) → HasAnswered start old m ds rs → GoesOnQuietly AnswersLine StaysQuiet m ls new → WentOn new ds rs ls
     went_on m new ds rs [] a w = record { more = []; replies = []; mid = m; next = None; answered = none_more m ds rs a; rest = w; none = tt; lines_are = refl }
     went_on m new ds rs (line ∷ ls) a w = went_line w.1 m w.0 new ds rs line ls a w.2 w.3 w.4 (λ es qs b. went_on w.0 new es qs ls b w.4)
 

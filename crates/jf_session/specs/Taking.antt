@@ -7,7 +7,7 @@ use Rattle.jf_text.specs.Words.{is_word}
 use Rattle.jf_store.specs.Starts.{Start}
 use Rattle.jf_store.specs.Ledgers.{AreEvents}
 use Rattle.jf_store.specs.Passes.{Store, IsPassOf, OthersAlone}
-use Rattle.jf_answers.specs.Explains.{Answered}
+use Rattle.jf_answers.specs.Explains.{LineReply}
 use Rattle.jf_history.specs.Sessions.{Session, HasReplied, IsTry, IsBroken, HasDoneNothing}
 use Rattle.jf_history.specs.declared.end.End.{End}
 use Rattle.jf_history.specs.declared.end.End.TheVariants as end
@@ -17,7 +17,7 @@ use Rattle.jf_session.specs.declared.stop.Stop.TheVariants as stop
 -- ---- a line
 -- the line was replied to, with this text
 abbrev pub RepliesWith : Start → Session → List ℕ → Session → List ℕ → Type 0
-RepliesWith start s line new text = (r : Answered) × HasReplied start s new line r × (text ≡ r.text)
+RepliesWith start s line new text = (r : LineReply) × HasReplied start s new line r × (text ≡ r.text)
 
 -- the result of a line for a session, and the text of its reply, or why the session stops
 abbrev pub Makes : Start → Session → List ℕ → Session → Result (List ℕ) Stop → Type 0

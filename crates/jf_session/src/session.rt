@@ -3,7 +3,7 @@ ghost use Rattle.std.specs.Prelude.{◌≡◌, ◌⊎◌, ◌++◌, length, Err,
 ghost use Rattle.jf_store.specs.Events.{is_marked};
 ghost use Rattle.jf_store.specs.Ledgers.{AreEvents};
 ghost use Rattle.jf_store.specs.Passes.{IsPassOf, none_pinned};
-ghost use Rattle.jf_answers.specs.Explains.{Answered};
+ghost use Rattle.jf_answers.specs.Explains.{LineReply};
 ghost use Rattle.jf_history.specs.Sessions.{HasReplied, HoldsPins, IsTry, IsBroken, HasDoneNothing, new_session, seen_by};
 ghost use Rattle.jf_session.specs.Steps.{IsSoundSession};
 ghost use Rattle.jf_session.specs.Answering.{stopped_session};
@@ -142,7 +142,7 @@ impl<D: Disk> Session<D> {
         // The pass is still one of this store's.
         ensures own { IsPassOf self.new.pass store.now }
         // The line was done over what the pass has seen, and its reply appended.
-        ensures ok { OnOk result ((r : Answered) × HasReplied store.now.start self.old self.new line.now r × (out.new ≡ out.old ++ r.text)) }
+        ensures ok { OnOk result ((r : LineReply) × HasReplied store.now.start self.old self.new line.now r × (out.new ≡ out.old ++ r.text)) }
         // After success the session goes on.
         ensures goes_on { OnOk result (self.new.over ≡ false) }
         // After an error nothing was appended.
@@ -154,7 +154,7 @@ impl<D: Disk> Session<D> {
         // If the store is broken, nothing was done, and the pass has seen the mark.
         ensures broken { result ≡ Err Stop.Broken → IsBroken self.old self.new line.now }
         // If memory ran out, nothing was done, or the line was done and its reply is lost.
-        ensures memory { result ≡ Err Stop.Memory → HasDoneNothing self.old self.new line.now ⊎ ((r : Answered) × HasReplied store.now.start self.old self.new line.now r) }
+        ensures memory { result ≡ Err Stop.Memory → HasDoneNothing self.old self.new line.now ⊎ ((r : LineReply) × HasReplied store.now.start self.old self.new line.now r) }
     {
         let mut block = Bytes::new(alloc);
         match self.reply_to_line(rt, alloc, store, line, workers, gate, &mut block) {

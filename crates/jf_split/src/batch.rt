@@ -106,7 +106,7 @@ impl Batch {
         // `Full` is returned only if the key is new and 10,000 are there.
         ensures full { result ≡ Err BatchFault.Full → IsTrue (is_full key.now self.old) }
         // If the key is new and 10,000 are there, the result is `Full` or `Memory`.
-        ensures room { IsTrue (is_full key.now self.old) → (result ≡ Err BatchFault.Full) ⊎ (result ≡ Err BatchFault.Memory) }
+        ensures no_room { IsTrue (is_full key.now self.old) → (result ≡ Err BatchFault.Full) ⊎ (result ≡ Err BatchFault.Memory) }
         // After Err, the batch is unchanged.
         ensures err { OnErr result (self.new ≡ self.old) }
     {
@@ -122,7 +122,7 @@ impl Batch {
         // `Full` is returned only if the key is new and 10,000 are there.
         ensures full { result ≡ Err BatchFault.Full → IsTrue (is_full key.now self.old) }
         // If the key is new and 10,000 are there, the result is `Full` or `Memory`.
-        ensures room { IsTrue (is_full key.now self.old) → (result ≡ Err BatchFault.Full) ⊎ (result ≡ Err BatchFault.Memory) }
+        ensures no_room { IsTrue (is_full key.now self.old) → (result ≡ Err BatchFault.Full) ⊎ (result ≡ Err BatchFault.Memory) }
         // If the key is in the batch already, the result is Ok.
         ensures present { IsSome (find key_cmp key.now self.old) → IsOk result }
         // After Err, the batch is unchanged.
@@ -137,7 +137,7 @@ impl Batch {
         requires short { IfSome value (λ v. length v ≤ max_value) }
         ensures ok { OnOk result (self.new ≡ put key_cmp key.now value self.old) }
         ensures full { result ≡ Err BatchFault.Full → IsTrue (is_full key.now self.old) }
-        ensures room { IsTrue (is_full key.now self.old) → (result ≡ Err BatchFault.Full) ⊎ (result ≡ Err BatchFault.Memory) }
+        ensures no_room { IsTrue (is_full key.now self.old) → (result ≡ Err BatchFault.Full) ⊎ (result ≡ Err BatchFault.Memory) }
         ensures present { IsSome (find key_cmp key.now self.old) → IsOk result }
         ensures err { OnErr result (self.new ≡ self.old) }
     {

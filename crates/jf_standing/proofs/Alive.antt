@@ -7,18 +7,18 @@ use Rattle.jf_path.proofs.FilterLaws.{Contains-filter, filter-Contains, filter-p
 use Rattle.jf_hash.specs.Slots.{Part}
 use Rattle.jf_model.specs.Nodes.{Path, plain_node}
 use Rattle.jf_walk.proofs.PlainLaws.{plain_node-versions}
-use Rattle.jf_standing.specs.Named.{Named, is_at, alive_nodes_at, version_at}
+use Rattle.jf_standing.specs.Named.{NamedNode, is_at, alive_nodes_at, version_at}
 use Rattle.jf_standing.proofs.Lists.{none_in_nothing}
 use Rattle.jf_standing.proofs.Counts.{count-one}
 use Rattle.jf_standing.proofs.Unmoved.{at-so}
 use Rattle.jf_standing.proofs.Steps.{parts_at}
 
-first_version : (ns : List Named) (n : Named) → Contains ns n → ((m : Named) → Contains ns m → m ≡ n) → slice_index_or (map (λ m. m.0.version) ns) 0 0 ≡ n.0.version
+first_version : (ns : List NamedNode) (n : NamedNode) → Contains ns n → ((m : NamedNode) → Contains ns m → m ≡ n) → slice_index_or (map (λ m. m.0.version) ns) 0 0 ≡ n.0.version
 first_version [] n has one = absurd (none_in_nothing n has)
-first_version (m ∷ ns) n has one = ap (λ (k : Named). k.0.version) (one m (Contains-first m ns))
+first_version (m ∷ ns) n has one = ap (λ (k : NamedNode). k.0.version) (one m (Contains-first m ns))
 
 -- if at most one node is alive at a path, the version at that path is this node's
-pub version-of : (w : ℕ) (ns : List Named) (q : Path) (n : Named) → count_by (is_at q) (alive_nodes_at w ns) ≤ 1 → Contains (alive_nodes_at w ns) n → n.0.path ≡ q → version_at w ns q ≡ n.0.version
+pub version-of : (w : ℕ) (ns : List NamedNode) (q : Path) (n : NamedNode) → count_by (is_at q) (alive_nodes_at w ns) ≤ 1 → Contains (alive_nodes_at w ns) n → n.0.path ≡ q → version_at w ns q ≡ n.0.version
 version-of w ns q n few has at =
     let here = at-so q n at in
     first_version (filter (is_at q) (alive_nodes_at w ns)) n (Contains-filter (is_at q) (alive_nodes_at w ns) n has here)

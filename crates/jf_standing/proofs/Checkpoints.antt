@@ -15,7 +15,7 @@ use Rattle.jf_hash.specs.Maps.{IsMap, Map}
 use Rattle.jf_hash.specs.Roots.{root}
 use Rattle.jf_model.specs.Nodes.{Path, is_node}
 use Rattle.jf_codec.specs.declared.format.Format.{Format}
-use Rattle.jf_standing.specs.Named.{Named, is_alive, is_at, alive_nodes_at, version_at, not_stale, map_at}
+use Rattle.jf_standing.specs.Named.{NamedNode, is_alive, is_at, alive_nodes_at, version_at, not_stale, map_at}
 use Rattle.jf_standing.specs.Standing.{Standing, with_nodes, versions_of}
 use Rattle.jf_standing.specs.Next.{IsReadStanding}
 use Rattle.jf_standing.specs.Building.{floor_of, rebuilt, nodes_by_name, landed_on, built_standing, up_from, apart, as_named, checkpoint_of}
@@ -34,11 +34,11 @@ use Rattle.jf_standing.proofs.Names.{same_name-exact, are_rising-sorted, sorted-
 use Rattle.jf_standing.proofs.OneStanding.{same-standing}
 
 -- ---- the version at a path: that of a node alive there, or 0
-first_low : (ns : List Named) (most : ℕ) → ((n : Named) → Contains ns n → n.0.version ≤ most) → slice_index_or (map (λ n. n.0.version) ns) 0 0 ≤ most
+first_low : (ns : List NamedNode) (most : ℕ) → ((n : NamedNode) → Contains ns n → n.0.version ≤ most) → slice_index_or (map (λ n. n.0.version) ns) 0 0 ≤ most
 first_low [] most low = omega arith
 first_low (n ∷ ns) most low = low n (Contains-first n ns)
 
-pub version-at_most : (w : ℕ) (ns : List Named) (p : Path) → version_at w ns p ≤ w
+pub version-at_most : (w : ℕ) (ns : List NamedNode) (p : Path) → version_at w ns p ≤ w
 version-at_most w ns p = first_low (filter (is_at p) (alive_nodes_at w ns)) w (λ n has. (alive-tells w n (filter-passes (is_alive w) ns n (filter-Contains (is_at p) (alive_nodes_at w ns) n has))).0)
 
 -- ---- any list of nodes
@@ -96,12 +96,12 @@ built_roots fmt maps rs top (suc n) w t at long each is =
     built_roots fmt maps rs top n (w + 1) (landed_on fmt (maps (w + 1)) t) (omega arith) (omega arith) (λ v low high. each v (omega arith) high)
     (ap (λ xs. root (maps (w + 1)) ∷ xs) (is ∙ ap (λ k. drop k rs) (let e : suc n ≡ n + 1 = omega arith in e)) ∙ drop-step n rs (root (maps (w + 1))) (omega arith) (ap (λ i. slice_index_or rs i []) (let e : n ≡ top - (w + 1) = omega arith in e) ∙ each (w + 1) (omega arith) (omega arith)))
 
-back : (ns : List Named) → map as_named (map apart ns) ≡ ns
+back : (ns : List NamedNode) → map as_named (map apart ns) ≡ ns
 back [] = refl
 back (n ∷ ns) = ap (λ t. n ∷ t) (back ns)
 
 -- the names of nodes whose names stand apart from their values
-pub apart_names : (ns : List Named) → map (λ e. e.0) (map apart ns) ≡ map (λ n. n.0) ns
+pub apart_names : (ns : List NamedNode) → map (λ e. e.0) (map apart ns) ≡ map (λ n. n.0) ns
 apart_names [] = refl
 apart_names (n ∷ ns) = ap (λ t. n.0 ∷ t) (apart_names ns)
 
@@ -110,7 +110,7 @@ forth [] = refl
 forth (e ∷ es) = ap (λ t. e ∷ t) (forth es)
 
 -- nodes whose names rise are those of a list in order if both have the same nodes
-pub same-by_name : (xs ys : List Named) → IsTrue (are_rising (map (λ n. n.0) ys)) → ((n : Named) → Contains (nodes_by_name xs) n → Contains ys n) → ((n : Named) → Contains ys n → Contains (nodes_by_name xs) n) → nodes_by_name xs ≡ ys
+pub same-by_name : (xs ys : List NamedNode) → IsTrue (are_rising (map (λ n. n.0) ys)) → ((n : NamedNode) → Contains (nodes_by_name xs) n → Contains ys n) → ((n : NamedNode) → Contains ys n → Contains (nodes_by_name xs) n) → nodes_by_name xs ≡ ys
 same-by_name xs ys rises there here =
     ap (map as_named) (same_sorted name_cmp name_cmp_total same_name-exact (by_name (map apart xs)) (map apart ys) (sorted-by_name (map apart xs)) (are_rising-sorted (map apart ys) (subst (λ ns. IsTrue (are_rising ns)) (sym (apart_names ys)) rises))
     (λ e has. Contains-map apart ys (as_named e) (there (as_named e) (Contains-map as_named (by_name (map apart xs)) e has)))

@@ -8,7 +8,7 @@ use Rattle.jf_hash.specs.Maps.{Map, IsMap, same_key}
 use Rattle.jf_hash.specs.Slots.{Part}
 use Rattle.jf_model.specs.Nodes.{is_fresh, Path, fresh, under, is_node, plain_node}
 use Rattle.jf_codec.specs.declared.format.Format.{Format}
-use Rattle.jf_standing.specs.Named.{Named, alive_nodes_at, not_stale, is_alive, is_at, version_at, map_at, leaf_entries}
+use Rattle.jf_standing.specs.Named.{NamedNode, alive_nodes_at, not_stale, is_alive, is_at, version_at, map_at, leaf_entries}
 use Rattle.jf_standing.specs.Standing.{Standing, is_named, unmarked_node}
 use Rattle.jf_standing.specs.Landing.{head_map, written_node, version_after}
 use Rattle.jf_standing.specs.Sound.{IsSound, is_counted}
@@ -28,17 +28,17 @@ use Rattle.jf_standing.proofs.Steps.{parts_at}
 use Rattle.jf_standing.proofs.LeafMaps.{HasNodes, leaves-map, leaves-apart}
 
 -- a node that stood before the landing and isn't named by it
-pub record StandsUnnamed (s : Standing) (m : Map) (n : Named) : Type 0 where
+pub record StandsUnnamed (s : Standing) (m : Map) (n : NamedNode) : Type 0 where
   pub stood : Contains s.nodes n
   pub alive : Contains (alive_nodes_at s.head s.nodes) n
   pub stays : is_fresh (entries m) (entries (head_map s)) n.0.path ≡ false
 
 module _ (fmt : Format) (s : Standing) (m : Map) (sound : IsSound fmt s) (keys : IsMap (head_map s)) (own_keys : IsMap m) (last : s.head + 1 < not_stale) where
-  abbrev pub now : List Named
+  abbrev pub now : List NamedNode
   now = nodes_after_commit (landing fmt s m sound keys own_keys last) s.nodes
 
   -- a node alive after the landing was kept, or is written by the landing
-  pub alive-cases : {P : Type 0} (n : Named) → Contains (alive_nodes_at (s.head + 1) now) n → (StandsUnnamed s m n → P) → ((x : Path × Part) → Contains (fresh (head_map s) m) x → unmarked_node (written_node fmt s m x) ≡ n → P) → P
+  pub alive-cases : {P : Type 0} (n : NamedNode) → Contains (alive_nodes_at (s.head + 1) now) n → (StandsUnnamed s m n → P) → ((x : Path × Part) → Contains (fresh (head_map s) m) x → unmarked_node (written_node fmt s m x) ≡ n → P) → P
   alive-cases {P} n has kept written =
       let c = landing fmt s m sound keys own_keys last in
       let n_alive = filter-passes (is_alive (s.head + 1)) now n has in
@@ -53,7 +53,7 @@ module _ (fmt : Format) (s : Standing) (m : Map) (sound : IsSound fmt s) (keys :
             kept (record {
               stood = here;
               alive = Contains-filter (is_alive s.head) s.nodes n here alive;
-              stays = rest (is_alive s.head n) (is_fresh (entries m) (entries (head_map s)) n.0.path) alive (sym (names-stale fmt s m sound keys n here) ∙ ap (λ (z : Named). is_named z.0 c.stale) (sym is_k) ∙ free);
+              stays = rest (is_alive s.head n) (is_fresh (entries m) (entries (head_map s)) n.0.path) alive (sym (names-stale fmt s m sound keys n here) ∙ ap (λ (z : NamedNode). is_named z.0 c.stale) (sym is_k) ∙ free);
             })
       ] refl)
       (λ y own same.
@@ -65,7 +65,7 @@ module _ (fmt : Format) (s : Standing) (m : Map) (sound : IsSound fmt s) (keys :
       rest false b is h = absurd (true≢false (sym is))
 
   -- a kept node is a node of both maps, with the same part
-  kept_part : (n : Named) → StandsUnnamed s m n → (is_node 0 n.0.path (entries m) ≡ true) × (under 0 n.0.path (entries m) ≡ under 0 n.0.path (entries (head_map s))) × (is_node 0 n.0.path (entries (head_map s)) ≡ true)
+  kept_part : (n : NamedNode) → StandsUnnamed s m n → (is_node 0 n.0.path (entries m) ≡ true) × (under 0 n.0.path (entries m) ≡ under 0 n.0.path (entries (head_map s))) × (is_node 0 n.0.path (entries (head_map s)) ≡ true)
   kept_part n kept =
       let node = test_so _ _ (stands fmt s sound s.head sound.floor_low (omega arith) n.0.path) (count-some (is_at n.0.path) (alive_nodes_at s.head s.nodes) n kept.alive (at-so n.0.path n refl)) in
       let both = stale-node (entries m) (entries (head_map s)) n.0.path node kept.stays in
@@ -83,11 +83,11 @@ module _ (fmt : Format) (s : Standing) (m : Map) (sound : IsSound fmt s) (keys :
       let stays : is_fresh (entries (head_map s)) (entries m) q ≡ false = ap (λ p. is_fresh (entries (head_map s)) (entries m) p) (sym at) ∙ kept-both (entries (head_map s)) (entries m) n.0.0.path part.2 (sym part.1) kept.stays in
       sym (version-of s.head s.nodes q n.0 (few-alive fmt s sound s.head sound.floor_low (omega arith) q) kept.alive at) ∙ ap (λ b. cond b (s.head + 1) (version_at s.head s.nodes q)) (sym stays))
       (λ x has same.
-      let fresh_q : is_fresh (entries (head_map s)) (entries m) q ≡ true = ap (λ p. is_fresh (entries (head_map s)) (entries m) p) (sym (ap (λ (z : Named). z.0.path) same ∙ at)) ∙ (listed-fresh (head_map s) m x has).0 in
-      sym (ap (λ (z : Named). z.0.version) same) ∙ ap (λ b. cond b (s.head + 1) (version_at s.head s.nodes q)) (sym fresh_q))
+      let fresh_q : is_fresh (entries (head_map s)) (entries m) q ≡ true = ap (λ p. is_fresh (entries (head_map s)) (entries m) p) (sym (ap (λ (z : NamedNode). z.0.path) same ∙ at)) ∙ (listed-fresh (head_map s) m x has).0 in
+      sym (ap (λ (z : NamedNode). z.0.version) same) ∙ ap (λ b. cond b (s.head + 1) (version_at s.head s.nodes q)) (sym fresh_q))
 
   -- each node alive after the landing is the node of the new map at its path
-  pub contents : (n : Named) → Contains (alive_nodes_at (s.head + 1) now) n → n.1 ≡ plain_node (is_counted fmt) (λ i. version_after s m (n.0.path ++ i ∷ [])) (length n.0.path) (under 0 n.0.path (entries m))
+  pub contents : (n : NamedNode) → Contains (alive_nodes_at (s.head + 1) now) n → n.1 ≡ plain_node (is_counted fmt) (λ i. version_after s m (n.0.path ++ i ∷ [])) (length n.0.path) (under 0 n.0.path (entries m))
   contents n has = alive-cases n has
       (λ kept.
       let p = n.0.path in
@@ -99,8 +99,8 @@ module _ (fmt : Format) (s : Standing) (m : Map) (sound : IsSound fmt s) (keys :
       ap (λ b. cond b (s.head + 1) (version_at s.head s.nodes (p ++ i ∷ []))) (sym (kept-step (entries (head_map s)) (entries m) p i there (same-step (entries (head_map s)) (entries m) p i (sym part.1))))))
       (λ x here same.
       let is = listed-fresh (head_map s) m x here in
-      let at : x.0 ≡ n.0.path = ap (λ (z : Named). z.0.path) same in
-      sym (ap (λ (z : Named). z.1) same) ∙ ap (plain_node (is_counted fmt) (λ i. version_after s m (x.0 ++ i ∷ [])) (length x.0)) is.1
+      let at : x.0 ≡ n.0.path = ap (λ (z : NamedNode). z.0.path) same in
+      sym (ap (λ (z : NamedNode). z.1) same) ∙ ap (plain_node (is_counted fmt) (λ i. version_after s m (x.0 ++ i ∷ [])) (length x.0)) is.1
       ∙ ap (λ p. plain_node (is_counted fmt) (λ i. version_after s m (p ++ i ∷ [])) (length p) (under 0 p (entries m))) at)
 
   has_nodes : HasNodes (is_counted fmt) m (alive_nodes_at (s.head + 1) now)

@@ -17,7 +17,7 @@ use Rattle.jf_codec.specs.declared.format.Format.{Format}
 use Rattle.jf_codec.specs.declared.format.Format.TheVariants as format
 use Rattle.jf_payload.specs.Counted.{commit_in}
 use Rattle.jf_payload.specs.declared.records.Commit.{Commit}
-use Rattle.jf_standing.specs.Named.{leaf_entry, Named, leaf_entries, is_alive, alive_nodes_at, is_written, written_nodes_at, is_stale, stale_nodes_at, map_at, is_at, version_at}
+use Rattle.jf_standing.specs.Named.{leaf_entry, NamedNode, leaf_entries, is_alive, alive_nodes_at, is_written, written_nodes_at, is_stale, stale_nodes_at, map_at, is_at, version_at}
 use Rattle.jf_standing.specs.Sound.{is_counted, IsNodeOf, IsVersion, IsStep, IsSound}
 use Rattle.jf_standing.specs.Standing.{Standing, down_from, versions_of, is_named, marked_node, unmarked_node, with_commit, with_floor}
 use Rattle.jf_standing.specs.FormatLaws.{standing_in}
@@ -40,62 +40,62 @@ plain_node-in format.One v d es = plain_node-uncounted v d es
 plain_node-in format.Two v d es = refl
 
 module _ (fmt : Format) where
-  abbrev pub named_in_format : Named → Named
+  abbrev pub named_in_format : NamedNode → NamedNode
   named_in_format n = (n.0, in_format fmt n.1, n.2)
 
-  pub leaves_kept : (ns : List Named) → leaf_entries (map named_in_format ns) ≡ leaf_entries ns
+  pub leaves_kept : (ns : List NamedNode) → leaf_entries (map named_in_format ns) ≡ leaf_entries ns
   leaves_kept [] = refl
   leaves_kept (n ∷ ns) = ap₂ (λ o es. cons_option o es) (leaf_same fmt n.1) (leaves_kept ns)
 
-  alive_kept : (w : ℕ) (ns : List Named) → alive_nodes_at w (map named_in_format ns) ≡ map named_in_format (alive_nodes_at w ns)
+  alive_kept : (w : ℕ) (ns : List NamedNode) → alive_nodes_at w (map named_in_format ns) ≡ map named_in_format (alive_nodes_at w ns)
   alive_kept w ns = filter-map (is_alive w) named_in_format ns
 
-  written_kept : (w : ℕ) (ns : List Named) → written_nodes_at w (map named_in_format ns) ≡ map named_in_format (written_nodes_at w ns)
+  written_kept : (w : ℕ) (ns : List NamedNode) → written_nodes_at w (map named_in_format ns) ≡ map named_in_format (written_nodes_at w ns)
   written_kept w ns = filter-map (is_written w) named_in_format ns
 
-  stale_kept : (w : ℕ) (ns : List Named) → stale_nodes_at w (map named_in_format ns) ≡ map named_in_format (stale_nodes_at w ns)
+  stale_kept : (w : ℕ) (ns : List NamedNode) → stale_nodes_at w (map named_in_format ns) ≡ map named_in_format (stale_nodes_at w ns)
   stale_kept w ns = filter-map (is_stale w) named_in_format ns
 
   -- the maps are unchanged
-  pub map_kept : (w : ℕ) (ns : List Named) → map_at w (map named_in_format ns) ≡ map_at w ns
+  pub map_kept : (w : ℕ) (ns : List NamedNode) → map_at w (map named_in_format ns) ≡ map_at w ns
   unfolding map_at
   map_kept w ns = ap from_entries (ap leaf_entries (alive_kept w ns) ∙ leaves_kept (alive_nodes_at w ns))
 
-  numbers_kept : (ns : List Named) → map (λ n. n.0.version) (map named_in_format ns) ≡ map (λ n. n.0.version) ns
+  numbers_kept : (ns : List NamedNode) → map (λ n. n.0.version) (map named_in_format ns) ≡ map (λ n. n.0.version) ns
   numbers_kept [] = refl
   numbers_kept (n ∷ ns) = ap (λ vs. n.0.version ∷ vs) (numbers_kept ns)
 
   -- the versions of nodes are unchanged
-  pub version_kept : (w : ℕ) (ns : List Named) (p : Path) → version_at w (map named_in_format ns) p ≡ version_at w ns p
+  pub version_kept : (w : ℕ) (ns : List NamedNode) (p : Path) → version_at w (map named_in_format ns) p ≡ version_at w ns p
   version_kept w ns p =
       ap (λ xs. slice_index_or (map (λ n. n.0.version) (filter (is_at p) xs)) 0 0) (alive_kept w ns)
       ∙ ap (λ xs. slice_index_or (map (λ n. n.0.version) xs) 0 0) (filter-map (is_at p) named_in_format (alive_nodes_at w ns))
       ∙ ap (λ vs. slice_index_or vs 0 0) (numbers_kept (filter (is_at p) (alive_nodes_at w ns)))
 
-  count_kept : (p : Path) (ns : List Named) → count_by (is_at p) (map named_in_format ns) ≡ count_by (is_at p) ns
+  count_kept : (p : Path) (ns : List NamedNode) → count_by (is_at p) (map named_in_format ns) ≡ count_by (is_at p) ns
   count_kept p [] = refl
   count_kept p (n ∷ ns) = count-cons (is_at p) (named_in_format n) (map named_in_format ns) ∙ ap (λ c. cond (is_at p n) 1 0 + c) (count_kept p ns) ∙ sym (count-cons (is_at p) n ns)
 
-  all_kept : (P : Named → Type 0) (ns : List Named) → AllByRecursion (λ n. P (named_in_format n)) ns → AllByRecursion P (map named_in_format ns)
+  all_kept : (P : NamedNode → Type 0) (ns : List NamedNode) → AllByRecursion (λ n. P (named_in_format n)) ns → AllByRecursion P (map named_in_format ns)
   all_kept P [] all = tt
   all_kept P (n ∷ ns) all = (all.0, all_kept P ns all.1)
 
-  stands_kept : (test : Path → ℕ) (before after : List Named) → after ≡ map named_in_format before → ((p : Path) → count_by (is_at p) before ≡ test p) → (p : Path) → count_by (is_at p) after ≡ test p
+  stands_kept : (test : Path → ℕ) (before after : List NamedNode) → after ≡ map named_in_format before → ((p : Path) → count_by (is_at p) before ≡ test p) → (p : Path) → count_by (is_at p) after ≡ test p
   stands_kept test before after is stand p = ap (count_by (is_at p)) is ∙ count_kept p before ∙ stand p
 
   -- ---- soundness
-  node_kept : (w : ℕ) (ns : List Named) (n : Named) → IsNodeOf format.Two w ns n → IsNodeOf fmt w (map named_in_format ns) (named_in_format n)
+  node_kept : (w : ℕ) (ns : List NamedNode) (n : NamedNode) → IsNodeOf format.Two w ns n → IsNodeOf fmt w (map named_in_format ns) (named_in_format n)
   node_kept w ns n is =
       ap (in_format fmt) is
       ∙ sym (plain_node-in fmt (λ i. version_at w ns (n.0.path ++ i ∷ [])) (length n.0.path) (under 0 n.0.path (entries (map_at w ns))))
       ∙ plain_node-same (is_counted fmt) (λ i. version_at w ns (n.0.path ++ i ∷ [])) (λ i. version_at w (map named_in_format ns) (n.0.path ++ i ∷ [])) (length n.0.path) (under 0 n.0.path (entries (map_at w ns))) (λ i some. sym (version_kept w ns (n.0.path ++ i ∷ [])))
       ∙ ap (λ m. plain_node (is_counted fmt) (λ i. version_at w (map named_in_format ns) (n.0.path ++ i ∷ [])) (length n.0.path) (under 0 n.0.path (entries m))) (sym (map_kept w ns))
 
-  nodes_kept : (w : ℕ) (ns xs : List Named) → AllByRecursion (IsNodeOf format.Two w ns) xs → AllByRecursion (λ n. IsNodeOf fmt w (map named_in_format ns) (named_in_format n)) xs
+  nodes_kept : (w : ℕ) (ns xs : List NamedNode) → AllByRecursion (IsNodeOf format.Two w ns) xs → AllByRecursion (λ n. IsNodeOf fmt w (map named_in_format ns) (named_in_format n)) xs
   nodes_kept w ns [] all = tt
   nodes_kept w ns (x ∷ xs) all = (node_kept w ns x all.0, nodes_kept w ns xs all.1)
 
-  is_version_kept : (w : ℕ) (ns : List Named) (recorded : List ℕ) → IsVersion format.Two ns w recorded → IsVersion fmt (map named_in_format ns) w recorded
+  is_version_kept : (w : ℕ) (ns : List NamedNode) (recorded : List ℕ) → IsVersion format.Two ns w recorded → IsVersion fmt (map named_in_format ns) w recorded
   is_version_kept w ns recorded v = record {
     one_leaf = subst (λ es. IsDistinct same_key (map (λ e. e.0) es)) (sym (ap leaf_entries (alive_kept w ns) ∙ leaves_kept (alive_nodes_at w ns))) v.one_leaf;
     nodes = subst (AllByRecursion (IsNodeOf fmt w (map named_in_format ns))) (sym (alive_kept w ns)) (all_kept (IsNodeOf fmt w (map named_in_format ns)) (alive_nodes_at w ns) (nodes_kept w ns (alive_nodes_at w ns) v.nodes));
@@ -103,7 +103,7 @@ module _ (fmt : Format) where
     room = subst (λ m. len m ≤ 2 ^ 63) (sym (map_kept w ns)) v.room;
   }
 
-  step_kept : (w : ℕ) (ns : List Named) → IsStep ns w → IsStep (map named_in_format ns) w
+  step_kept : (w : ℕ) (ns : List NamedNode) → IsStep ns w → IsStep (map named_in_format ns) w
   step_kept w ns step = record {
     fresh = λ p. stands_kept (λ p. cond (is_fresh (entries (map_at (w - 1) ns)) (entries (map_at w ns)) p) 1 0) (written_nodes_at w ns) (written_nodes_at w (map named_in_format ns)) (written_kept w ns) step.fresh p
         ∙ ap₂ (λ m k. cond (is_fresh (entries m) (entries k) p) 1 0) (sym (map_kept (w - 1) ns)) (sym (map_kept w ns));
@@ -127,7 +127,7 @@ module _ (fmt : Format) where
     gone = all_kept _ s.nodes sound.gone;
   }
 
-  maps_kept : (ns : List Named) (ws : List ℕ) → map (λ w. map_at w (map named_in_format ns)) ws ≡ map (λ w. map_at w ns) ws
+  maps_kept : (ns : List NamedNode) (ws : List ℕ) → map (λ w. map_at w (map named_in_format ns)) ws ≡ map (λ w. map_at w ns) ws
   maps_kept ns [] = refl
   maps_kept ns (w ∷ ws) = ap₂ (λ m ms. m ∷ ms) (map_kept w ns) (maps_kept ns ws)
 
@@ -162,10 +162,10 @@ module _ (fmt : Format) where
       ap₂ (λ xs names. record { version = s.head + 1; root = root m; fresh = xs; stale = names }) written (ap in_order gone)
 
   -- ---- landings and floors on what a format keeps
-  mark_kept : (c : Commit) (n : Named) → marked_node (commit_in fmt c) (named_in_format n) ≡ named_in_format (marked_node c n)
+  mark_kept : (c : Commit) (n : NamedNode) → marked_node (commit_in fmt c) (named_in_format n) ≡ named_in_format (marked_node c n)
   mark_kept c n = elim (is_named n.0 c.stale) as (λ b. cond b (n.0, in_format fmt n.1, c.version) (named_in_format n) ≡ named_in_format (cond b (n.0, n.1, c.version) n)) [ true ↦ refl | false ↦ refl ]
 
-  marks_kept : (c : Commit) (ns : List Named) → map (marked_node (commit_in fmt c)) (map named_in_format ns) ≡ map named_in_format (map (marked_node c) ns)
+  marks_kept : (c : Commit) (ns : List NamedNode) → map (marked_node (commit_in fmt c)) (map named_in_format ns) ≡ map named_in_format (map (marked_node c) ns)
   marks_kept c [] = refl
   marks_kept c (n ∷ ns) = ap₂ (λ x xs. x ∷ xs) (mark_kept c n) (marks_kept c ns)
 

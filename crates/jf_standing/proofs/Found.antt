@@ -16,7 +16,7 @@ use Rattle.jf_model.specs.Nodes.{is_fresh, Path, is_node, under, fresh}
 use Rattle.jf_codec.specs.declared.format.Format.{Format}
 use Rattle.jf_payload.specs.declared.records.Commit.{Commit}
 use Rattle.jf_walk.proofs.FreshOrder.{sorted-fresh}
-use Rattle.jf_standing.specs.Named.{Named, map_at, written_nodes_at, stale_nodes_at, is_at, alive_nodes_at, is_alive, is_written, version_at}
+use Rattle.jf_standing.specs.Named.{NamedNode, map_at, written_nodes_at, stale_nodes_at, is_at, alive_nodes_at, is_alive, is_written, version_at}
 use Rattle.jf_standing.specs.Standing.{marked_node, unmarked_node, Standing, with_commit, is_named}
 use Rattle.jf_standing.specs.Sound.{IsSound, IsStep, StandAt, is_counted}
 use Rattle.jf_standing.specs.Taking.{Continues}
@@ -33,7 +33,7 @@ use Rattle.jf_standing.proofs.Names.{same_name-exact, are_rising-sorted}
 use Rattle.jf_standing.proofs.Freshness.{fresh-node, child-node, fresh-listed, listed-fresh, sorted-written}
 
 -- a node after a landing stood before, or is written by the landing
-pub nodes_after_commit-cases : {P : Type 0} (c : Commit) (ns : List Named) (n : Named) → Contains (nodes_after_commit c ns) n → ((m : Named) → Contains ns m → marked_node c m ≡ n → P) → ((x : NodeName × PlainNode) → Contains c.fresh x → unmarked_node x ≡ n → P) → P
+pub nodes_after_commit-cases : {P : Type 0} (c : Commit) (ns : List NamedNode) (n : NamedNode) → Contains (nodes_after_commit c ns) n → ((m : NamedNode) → Contains ns m → marked_node c m ≡ n → P) → ((x : NodeName × PlainNode) → Contains c.fresh x → unmarked_node x ≡ n → P) → P
 nodes_after_commit-cases c ns n has stood own = elim (Contains-append_cases (map (marked_node c) ns) (map unmarked_node c.fresh) n has) [
   | inl left ↦ let m = map-which (marked_node c) ns n left in stood m.0 m.1 m.2
   | inr right ↦ let x = map-which unmarked_node c.fresh n right in own x.0 x.1 x.2
@@ -69,10 +69,10 @@ module _ (fmt : Format) (s : Standing) (c : Commit) (sound : IsSound fmt s) (goe
   few_before q = few-alive fmt s sound s.head sound.floor_low (omega arith) q
 
   -- a node that the landing writes is alive after it
-  written_alive : (n : Named) → Contains (nodes_after_commit c s.nodes) n → n.0.version ≡ c.version → Contains (alive_nodes_at c.version (nodes_after_commit c s.nodes)) n
+  written_alive : (n : NamedNode) → Contains (nodes_after_commit c s.nodes) n → n.0.version ≡ c.version → Contains (alive_nodes_at c.version (nodes_after_commit c s.nodes)) n
   written_alive n has at = nodes_after_commit-cases c s.nodes n has
-      (λ m stood is. absurd (let low = version-low fmt s sound m stood in let same = ap (λ (k : NodeName). k.version) (sym (marked-name c m) ∙ ap (λ (k : Named). k.0) is) in let next = goes.next in omega arith))
-      (λ x own is. Contains-filter (is_alive c.version) (nodes_after_commit c s.nodes) n has (ap (is_alive c.version) (sym is) ∙ alive-so c.version (unmarked_node x) (let v = ap (λ (k : Named). k.0.version) is in omega arith) behind_sound.head_last))
+      (λ m stood is. absurd (let low = version-low fmt s sound m stood in let same = ap (λ (k : NodeName). k.version) (sym (marked-name c m) ∙ ap (λ (k : NamedNode). k.0) is) in let next = goes.next in omega arith))
+      (λ x own is. Contains-filter (is_alive c.version) (nodes_after_commit c s.nodes) n has (ap (is_alive c.version) (sym is) ∙ alive-so c.version (unmarked_node x) (let v = ap (λ (k : NamedNode). k.0.version) is in omega arith) behind_sound.head_last))
 
   pub version_found : (q : Path) → is_node 0 q (entries landed_map) ≡ true → version_at c.version (nodes_after_commit c s.nodes) q ≡ version_after s landed_map q
   version_found q node =
@@ -94,10 +94,10 @@ module _ (fmt : Format) (s : Standing) (c : Commit) (sound : IsSound fmt s) (goe
                   let is_m : n.0 ≡ m = sym same ∙ marked-not c m free in
                   let tells = alive-tells c.version m (ap (is_alive c.version) (sym is_m) ∙ n_alive) in
                   let alive = Contains-filter (is_alive s.head) s.nodes m stood (alive-so s.head m (version-low fmt s sound m stood) (let up = tells.1 in omega arith)) in
-                  ap (λ (k : Named). k.0.version) is_m ∙ sym (version-of s.head s.nodes q m (few_before q) alive (ap (λ (k : Named). k.0.path) (sym is_m) ∙ n.2))
+                  ap (λ (k : NamedNode). k.0.version) is_m ∙ sym (version-of s.head s.nodes q m (few_before q) alive (ap (λ (k : NamedNode). k.0.path) (sym is_m) ∙ n.2))
             ] refl)
             (λ x own same. absurd (
-            let v : n.0.0.version ≡ c.version = ap (λ (k : Named). k.0.version) (sym same) ∙ All-of (λ x. x.0.version ≡ c.version) c.fresh x goes.fresh_own own in
+            let v : n.0.0.version ≡ c.version = ap (λ (k : NamedNode). k.0.version) (sym same) ∙ All-of (λ x. x.0.version ≡ c.version) c.fresh x goes.fresh_own own in
             let there = Contains-filter (is_written c.version) (nodes_after_commit c s.nodes) n.0 n_in (same_number n.0.0.version c.version v) in
             true≢false (sym (test_so _ _ (fresh_stand q) (count-some (is_at q) (written_nodes_at c.version (nodes_after_commit c s.nodes)) n.0 there (at-so q n.0 n.2))) ∙ is)))
       ] refl
@@ -134,8 +134,8 @@ module _ (fmt : Format) (s : Standing) (c : Commit) (sound : IsSound fmt s) (goe
         let n_in = filter-Contains (is_written c.version) (nodes_after_commit c s.nodes) n.0 n.1 in
         let n_at = number_tells n.0.0.version c.version (filter-passes (is_written c.version) (nodes_after_commit c s.nodes) n.0 n.1) in
         nodes_after_commit-cases c s.nodes n.0 n_in
-        (λ m stood same. absurd (let up = version-low fmt s sound m stood in let v = ap (λ (k : NodeName). k.version) (sym (marked-name c m) ∙ ap (λ (k : Named). k.0) same) in let next = goes.next in omega arith))
+        (λ m stood same. absurd (let up = version-low fmt s sound m stood in let v = ap (λ (k : NodeName). k.version) (sym (marked-name c m) ∙ ap (λ (k : NamedNode). k.0) same) in let next = goes.next in omega arith))
         (λ z own same.
-        let at : z.0.path ≡ x.0.0 = ap (λ (k : Named). k.0.path) same ∙ at-tells x.0.0 n.0 n.2 in
+        let at : z.0.path ≡ x.0.0 = ap (λ (k : NamedNode). k.0.path) same ∙ at-tells x.0.0 n.0 n.2 in
         let z_is : z ≡ y = (fresh_found z own).1 ∙ ap (λ p. written_node fmt s landed_map (p, under 0 p (entries landed_map))) at ∙ ap (λ part. written_node fmt s landed_map (x.0.0, part)) (sym is.1) ∙ x.2 in
         subst (λ e. Contains c.fresh e) z_is own))

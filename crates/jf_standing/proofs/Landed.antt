@@ -16,7 +16,7 @@ use Rattle.jf_payload.specs.declared.records.Commit.{Commit}
 use Rattle.jf_standing.specs.Standing.{Standing, with_commit, is_named, marked_node}
 use Rattle.jf_standing.specs.Sound.{IsSound}
 use Rattle.jf_standing.specs.Taking.{Continues}
-use Rattle.jf_standing.specs.Named.{Named, is_alive, is_stale, is_at, stale_nodes_at}
+use Rattle.jf_standing.specs.Named.{NamedNode, is_alive, is_stale, is_at, stale_nodes_at}
 use Rattle.jf_standing.specs.Landing.{head_map, name_at_head, stale_names, landing_of, IsInOrder}
 use Rattle.jf_standing.proofs.Found.{landed_map, test_so, stale_stand, nodes_after_commit-cases, few_before, fresh_equal}
 use Rattle.jf_standing.proofs.Counts.{count-some, count-which}
@@ -33,7 +33,7 @@ module _ (fmt : Format) (s : Standing) (c : Commit) (sound : IsSound fmt s) (goe
   after_map = landed_map fmt s c sound goes behind_sound
 
   -- a node that the landing names was alive, and is stale in the map after it
-  pub named_was : (n : Named) → Contains s.nodes n → is_named n.0 c.stale ≡ true → (is_alive s.head n ≡ true) × (is_fresh (entries after_map) (entries (head_map s)) n.0.path ≡ true)
+  pub named_was : (n : NamedNode) → Contains s.nodes n → is_named n.0 c.stale ≡ true → (is_alive s.head n ≡ true) × (is_fresh (entries after_map) (entries (head_map s)) n.0.path ≡ true)
   named_was n has named =
       let next = goes.next in
       let is = marked-yes c n named in
@@ -56,21 +56,21 @@ module _ (fmt : Format) (s : Standing) (c : Commit) (sound : IsSound fmt s) (goe
       (λ m stood same. elim (is_named m.0 c.stale) as (λ b. is_named m.0 c.stale ≡ b → is_named (name_at_head s p) c.stale ≡ true) [
         | true ↦ λ named.
             let alive = (named_was m stood named).0 in
-            let at : m.0.path ≡ p = ap (λ k. k.path) (sym (marked-name c m)) ∙ ap (λ (k : Named). k.0.path) same ∙ at-tells p n.0 n.2 in
+            let at : m.0.path ≡ p = ap (λ k. k.path) (sym (marked-name c m)) ∙ ap (λ (k : NamedNode). k.0.path) same ∙ at-tells p n.0 n.2 in
             let v = version-of s.head s.nodes p m (few_before fmt s c sound goes behind_sound p) (Contains-filter (is_alive s.head) s.nodes m stood alive) at in
             ap (λ k. is_named k c.stale) (ap₂ (λ k q. record { version = k; path = q }) v (sym at)) ∙ named
         | false ↦ λ free. absurd (
-            let since : m.2 ≡ c.version = ap (λ (k : Named). k.2) (sym (marked-not c m free) ∙ same) ∙ n_stale in
+            let since : m.2 ≡ c.version = ap (λ (k : NamedNode). k.2) (sym (marked-not c m free) ∙ same) ∙ n_stale in
             elim (All-of _ s.nodes m sound.gone stood) [ inl none ↦ omega arith | inr late ↦ let up = late.1 in omega arith ])
       ] refl)
-      (λ x own same. absurd (let since = ap (λ (k : Named). k.2) same ∙ n_stale in omega arith))
+      (λ x own same. absurd (let since = ap (λ (k : NamedNode). k.2) same ∙ n_stale in omega arith))
 
   module _ (keys : IsMap (head_map s)) where
     named_same : (name : NodeName) → is_named name c.stale ≡ is_named name (stale_names s after_map)
     named_same name = same_test (is_named name c.stale) (is_named name (stale_names s after_map))
         (λ is.
         let known = named-tells name (map (λ n. n.0) s.nodes) (All-of _ c.stale name goes.stale_known (named-tells name c.stale is)) in
-        let n = map-which (λ (n : Named). n.0) s.nodes name known in
+        let n = map-which (λ (n : NamedNode). n.0) s.nodes name known in
         let was = named_was n.0 n.1 (ap (λ k. is_named k c.stale) n.2 ∙ is) in
         let v = version-of s.head s.nodes n.0.0.path n.0 (few_before fmt s c sound goes behind_sound n.0.0.path) (Contains-filter (is_alive s.head) s.nodes n.0 n.1 was.0) refl in
         let it : name_at_head s n.0.0.path ≡ name = ap (λ k. record { version = k; path = n.0.0.path }) v ∙ n.2 in

@@ -12,7 +12,7 @@ use Rattle.jf_hash.specs.Roots.{root}
 use Rattle.jf_hash.specs.Slots.{Part}
 use Rattle.jf_model.specs.Nodes.{Path, under, plain_node, is_fresh, stale, is_node}
 use Rattle.jf_codec.specs.declared.format.Format.{Format}
-use Rattle.jf_standing.specs.Named.{Named, not_stale, alive_nodes_at, map_at, version_at, is_at, is_written, written_nodes_at, is_alive, is_stale, stale_nodes_at, leaf_entries}
+use Rattle.jf_standing.specs.Named.{NamedNode, not_stale, alive_nodes_at, map_at, version_at, is_at, is_written, written_nodes_at, is_alive, is_stale, stale_nodes_at, leaf_entries}
 use Rattle.jf_standing.specs.Standing.{Standing, marked_node, is_named, with_commit}
 use Rattle.jf_standing.specs.Sound.{IsSound, StandAt, is_counted, IsVersion, IsStep}
 use Rattle.jf_standing.specs.Landing.{head_map, landing_of, version_after, name_at_head, stale_names}
@@ -32,7 +32,7 @@ use Rattle.jf_standing.proofs.Unique.{few-alive}
 use Rattle.jf_standing.proofs.Names.{named-tells, named-so, named-in_order}
 
 module _ (fmt : Format) (s : Standing) (m : Map) (sound : IsSound fmt s) (keys : IsMap (head_map s)) (own_keys : IsMap m) (last : s.head + 1 < not_stale) where
-  abbrev pub own : List Named
+  abbrev pub own : List NamedNode
   own = now fmt s m sound keys own_keys last
 
   -- ---- an earlier version
@@ -46,13 +46,13 @@ module _ (fmt : Format) (s : Standing) (m : Map) (sound : IsSound fmt s) (keys :
   version_own w p high = version-nodes_after_commit (landing_of fmt s m) w s.nodes p (omega arith) (fresh-own fmt s m) (still fmt s m sound keys own_keys last w high)
 
   -- marking nodes changes no count at a path
-  count_marked : (p : Path) (ns : List Named) → count_by (is_at p) (map (marked_node (landing_of fmt s m)) ns) ≡ count_by (is_at p) ns
+  count_marked : (p : Path) (ns : List NamedNode) → count_by (is_at p) (map (marked_node (landing_of fmt s m)) ns) ≡ count_by (is_at p) ns
   count_marked p ns = count-map (is_at p) (marked_node (landing_of fmt s m)) ns ∙ count-same (λ n. is_at p (marked_node (landing_of fmt s m) n)) (is_at p) ns (All-each_element _ ns (λ n has. ap (λ k. bytes_eq k.path p) (marked-name (landing_of fmt s m) n)))
 
   written_own : (w : ℕ) → w ≤ s.head → written_nodes_at w own ≡ map (marked_node (landing_of fmt s m)) (written_nodes_at w s.nodes)
   written_own w high = filter-unchanged (is_written w) (landing_of fmt s m) s.nodes (none_written (landing_of fmt s m) w (landing_of fmt s m).fresh (omega arith) (fresh-own fmt s m)) (All-each_element _ s.nodes (λ n has. ap (λ k. k.version == w) (marked-name (landing_of fmt s m) n)))
 
-  stale_same : (w : ℕ) → w ≤ s.head → (n : Named) → Contains s.nodes n → is_stale w (marked_node (landing_of fmt s m) n) ≡ is_stale w n
+  stale_same : (w : ℕ) → w ≤ s.head → (n : NamedNode) → Contains s.nodes n → is_stale w (marked_node (landing_of fmt s m) n) ≡ is_stale w n
   stale_same w high n has = elim (is_named n.0 (landing_of fmt s m).stale) as (λ b. is_named n.0 (landing_of fmt s m).stale ≡ b → is_stale w (cond b (n.0, n.1, s.head + 1) n) ≡ is_stale w n) [
     | true ↦ λ named.
         let alive = alive-tells s.head n (parts (is_alive s.head n) _ (sym (names-stale fmt s m sound keys n has) ∙ named)) in
@@ -67,7 +67,7 @@ module _ (fmt : Format) (s : Standing) (m : Map) (sound : IsSound fmt s) (keys :
   stale_own : (w : ℕ) → w ≤ s.head → stale_nodes_at w own ≡ map (marked_node (landing_of fmt s m)) (stale_nodes_at w s.nodes)
   stale_own w high = filter-unchanged (is_stale w) (landing_of fmt s m) s.nodes (All-each_element _ (landing_of fmt s m).fresh (λ x has. other_number not_stale w (λ is. omega arith))) (All-each_element _ s.nodes (stale_same w high))
 
-  stands_own : (test : Path → Bool) (ns ms : List Named) → ms ≡ map (marked_node (landing_of fmt s m)) ns → StandAt test ns → StandAt test ms
+  stands_own : (test : Path → Bool) (ns ms : List NamedNode) → ms ≡ map (marked_node (landing_of fmt s m)) ns → StandAt test ns → StandAt test ms
   stands_own test ns ms is stand p = ap (count_by (is_at p)) is ∙ count_marked p ns ∙ stand p
 
   root_own : (w : ℕ) → w ≤ s.head → slice_index_or (root m ∷ s.roots) (s.head + 1 - w) [] ≡ slice_index_or s.roots (s.head - w) []
@@ -80,8 +80,8 @@ module _ (fmt : Format) (s : Standing) (m : Map) (sound : IsSound fmt s) (keys :
         one_leaf = subst (λ es. IsDistinct same_key (map (λ (e : List ℕ × List ℕ). e.0) es)) (sym (ap leaf_entries (alive_own w high) ∙ leaf_entries-marked (landing_of fmt s m) (alive_nodes_at w s.nodes))) v.one_leaf;
         nodes = All-each_element _ (alive_nodes_at w own) (λ n has.
             let k = map-which (marked_node (landing_of fmt s m)) (alive_nodes_at w s.nodes) n (subst (λ ns. Contains ns n) (alive_own w high) has) in
-            let at : k.0.0.path ≡ n.0.path = ap (λ z. z.path) (sym (marked-name (landing_of fmt s m) k.0)) ∙ ap (λ (z : Named). z.0.path) k.2 in
-            sym (ap (λ (z : Named). z.1) k.2) ∙ marked-node (landing_of fmt s m) k.0
+            let at : k.0.0.path ≡ n.0.path = ap (λ z. z.path) (sym (marked-name (landing_of fmt s m) k.0)) ∙ ap (λ (z : NamedNode). z.0.path) k.2 in
+            sym (ap (λ (z : NamedNode). z.1) k.2) ∙ marked-node (landing_of fmt s m) k.0
             ∙ All-of _ (alive_nodes_at w s.nodes) k.0 v.nodes k.1
             ∙ ap (λ p. plain_node (is_counted fmt) (λ i. version_at w s.nodes (p ++ i ∷ [])) (length p) (under 0 p (entries (map_at w s.nodes)))) at
             ∙ sym (plain_node-same (is_counted fmt) (λ i. version_at w own (n.0.path ++ i ∷ [])) (λ i. version_at w s.nodes (n.0.path ++ i ∷ [])) (length n.0.path) (under 0 n.0.path (entries (map_at w s.nodes))) (λ i some. version_own w (n.0.path ++ i ∷ []) high))
@@ -132,8 +132,8 @@ module _ (fmt : Format) (s : Standing) (m : Map) (sound : IsSound fmt s) (keys :
     stood = All-each_element _ (stale_nodes_at (s.head + 1) own) (λ n has.
         let at = number_tells n.2 (s.head + 1) (filter-passes (is_stale (s.head + 1)) own n has) in
         nodes_after_commit-cases (landing_of fmt s m) s.nodes n (filter-Contains (is_stale (s.head + 1)) own n has)
-        (λ k stood same. alive-so (s.head + 1 - 1) n (let low = version-low fmt s sound k stood in let v = ap (λ z. z.version) (sym (marked-name (landing_of fmt s m) k) ∙ ap (λ (z : Named). z.0) same) in omega arith) (omega arith))
-        (λ x mine same. absurd (let since = ap (λ (z : Named). z.2) same in omega arith)));
+        (λ k stood same. alive-so (s.head + 1 - 1) n (let low = version-low fmt s sound k stood in let v = ap (λ z. z.version) (sym (marked-name (landing_of fmt s m) k) ∙ ap (λ (z : NamedNode). z.0) same) in omega arith) (omega arith))
+        (λ x mine same. absurd (let since = ap (λ (z : NamedNode). z.2) same in omega arith)));
   }
 
   -- ---- all versions
@@ -154,14 +154,14 @@ module _ (fmt : Format) (s : Standing) (m : Map) (sound : IsSound fmt s) (keys :
       | inr old ↦ old_step w low old
     ];
     written = All-each_element _ own (λ n has. nodes_after_commit-cases (landing_of fmt s m) s.nodes n has
-        (λ k stood same. let low = version-low fmt s sound k stood in let v = ap (λ z. z.version) (sym (marked-name (landing_of fmt s m) k) ∙ ap (λ (z : Named). z.0) same) in omega arith)
-        (λ x mine same. let at = All-of (λ x. x.0.version ≡ s.head + 1) (landing_of fmt s m).fresh x (fresh-own fmt s m) mine in let v = ap (λ (z : Named). z.0.version) same in omega arith));
+        (λ k stood same. let low = version-low fmt s sound k stood in let v = ap (λ z. z.version) (sym (marked-name (landing_of fmt s m) k) ∙ ap (λ (z : NamedNode). z.0) same) in omega arith)
+        (λ x mine same. let at = All-of (λ x. x.0.version ≡ s.head + 1) (landing_of fmt s m).fresh x (fresh-own fmt s m) mine in let v = ap (λ (z : NamedNode). z.0.version) same in omega arith));
     gone = All-each_element _ own (λ n has. nodes_after_commit-cases (landing_of fmt s m) s.nodes n has
         (λ k stood same. elim (is_named k.0 (landing_of fmt s m).stale) as (λ b. is_named k.0 (landing_of fmt s m).stale ≡ b → (n.2 ≡ not_stale) ⊎ ((s.floor < n.2) × (n.2 ≤ s.head + 1))) [
-          | true ↦ λ named. let at = ap (λ (z : Named). z.2) (sym (marked-yes (landing_of fmt s m) k named) ∙ same) in let low = sound.floor_low in inr (omega arith, omega arith)
-          | false ↦ λ free. let at = ap (λ (z : Named). z.2) (sym (marked-not (landing_of fmt s m) k free) ∙ same) in elim (All-of _ s.nodes k sound.gone stood) [ inl none ↦ inl (omega arith) | inr late ↦ let up = late.0 in let down = late.1 in inr (omega arith, omega arith) ]
+          | true ↦ λ named. let at = ap (λ (z : NamedNode). z.2) (sym (marked-yes (landing_of fmt s m) k named) ∙ same) in let low = sound.floor_low in inr (omega arith, omega arith)
+          | false ↦ λ free. let at = ap (λ (z : NamedNode). z.2) (sym (marked-not (landing_of fmt s m) k free) ∙ same) in elim (All-of _ s.nodes k sound.gone stood) [ inl none ↦ inl (omega arith) | inr late ↦ let up = late.0 in let down = late.1 in inr (omega arith, omega arith) ]
         ] refl)
-        (λ x mine same. inl (sym (ap (λ (z : Named). z.2) same))));
+        (λ x mine same. inl (sym (ap (λ (z : NamedNode). z.2) same))));
   }
 
   -- the landing continues from the head
@@ -174,7 +174,7 @@ module _ (fmt : Format) (s : Standing) (m : Map) (sound : IsSound fmt s) (keys :
         let k = alive-there fmt s sound s.head sound.floor_low (omega arith) x.0.0 (fresh-node (entries m) (entries (head_map s)) x.0.0 (listed-fresh m (head_map s) x.0 x.1).0) in
         let v = version-of s.head s.nodes x.0.0 k.0 (few-alive fmt s sound s.head sound.floor_low (omega arith) x.0.0) k.1 k.2 in
         let it : k.0.0 ≡ name = sym (ap₂ (λ v p. record { version = v; path = p }) v (sym k.2)) ∙ x.2 in
-        named-so name (map (λ n. n.0) s.nodes) (subst (Contains (map (λ n. n.0) s.nodes)) it (Contains-map (λ (n : Named). n.0) s.nodes k.0 (filter-Contains (is_alive s.head) s.nodes k.0 k.1))));
+        named-so name (map (λ n. n.0) s.nodes) (subst (Contains (map (λ n. n.0) s.nodes)) it (Contains-map (λ (n : NamedNode). n.0) s.nodes k.0 (filter-Contains (is_alive s.head) s.nodes k.0 k.1))));
   }
 
   pub map-lands : map_at (s.head + 1) (with_commit (landing_of fmt s m) s).nodes ≡ m

@@ -9,15 +9,15 @@ use Rattle.jf_path.proofs.ListLaws.{Contains-first, Contains-later, All-of}
 use Rattle.jf_path.proofs.FilterLaws.{filter-Contains}
 use Rattle.jf_hash.specs.Maps.{Map, IsMap}
 use Rattle.jf_hash.proofs.KeyOrder.{same_key-exact}
-use Rattle.jf_standing.specs.Named.{Named, leaf_entry, leaf_entries, is_alive, alive_nodes_at, AreEntries, map_at}
+use Rattle.jf_standing.specs.Named.{NamedNode, leaf_entry, leaf_entries, is_alive, alive_nodes_at, AreEntries, map_at}
 use Rattle.jf_standing.proofs.Lists.{Contains-cases, none_in_nothing, All-each_element}
 use Rattle.jf_standing.proofs.Ordered.{find-Contains, Contains-find}
 
 -- each of the entries is that of a leaf
-pub leaf-which : (ns : List Named) (e : List ℕ × List ℕ) → Contains (leaf_entries ns) e → (n : Named) × Contains ns n × (leaf_entry n.1 ≡ Some e)
+pub leaf-which : (ns : List NamedNode) (e : List ℕ × List ℕ) → Contains (leaf_entries ns) e → (n : NamedNode) × Contains ns n × (leaf_entry n.1 ≡ Some e)
 leaf-which [] e has = absurd (none_in_nothing e has)
 leaf-which (n ∷ ns) e has =
-    elim (leaf_entry n.1) as (λ o. leaf_entry n.1 ≡ o → Contains (cons_option o (leaf_entries ns)) e → (m : Named) × Contains (n ∷ ns) m × (leaf_entry m.1 ≡ Some e)) [
+    elim (leaf_entry n.1) as (λ o. leaf_entry n.1 ≡ o → Contains (cons_option o (leaf_entries ns)) e → (m : NamedNode) × Contains (n ∷ ns) m × (leaf_entry m.1 ≡ Some e)) [
       | None ↦ λ is there. let m = leaf-which ns e there in (m.0, Contains-later m.0 n ns m.1, m.2)
       | Some f ↦ λ is there. Contains-cases e f (leaf_entries ns) there
           (λ same. (n, Contains-first n ns, is ∙ ap Some same))
@@ -25,10 +25,10 @@ leaf-which (n ∷ ns) e has =
     ] refl has
 
 -- the entry of each leaf is among the entries
-pub leaf-so : (ns : List Named) (n : Named) (e : List ℕ × List ℕ) → Contains ns n → leaf_entry n.1 ≡ Some e → Contains (leaf_entries ns) e
+pub leaf-so : (ns : List NamedNode) (n : NamedNode) (e : List ℕ × List ℕ) → Contains ns n → leaf_entry n.1 ≡ Some e → Contains (leaf_entries ns) e
 leaf-so [] n e has is = absurd (none_in_nothing n has)
 leaf-so (m ∷ ns) n e has is = Contains-cases n m ns has
-    (λ same. subst (λ o. Contains (cons_option o (leaf_entries ns)) e) (sym (ap (λ (k : Named). leaf_entry k.1) same ∙ is)) (Contains-first e (leaf_entries ns)))
+    (λ same. subst (λ o. Contains (cons_option o (leaf_entries ns)) e) (sym (ap (λ (k : NamedNode). leaf_entry k.1) same ∙ is)) (Contains-first e (leaf_entries ns)))
     (λ later. elim (leaf_entry m.1) as (λ o. Contains (cons_option o (leaf_entries ns)) e) [
       | None ↦ leaf-so ns n e later is
       | Some f ↦ Contains-later e f (leaf_entries ns) (leaf-so ns n e later is)
@@ -42,7 +42,7 @@ from_entries-Contains es e has =
     (sym (fin.get-from_entries nat_list_cmp_total es e.0) ∙ fin.get-entries m e.0 ∙ Contains-find key_cmp nat_list_cmp_total same_key-exact (entries m) e (fin.entries_sorted m) has)
 
 -- the map at a version has keys and values if the leaves have
-pub IsMap-map_at : (w : ℕ) (ns : List Named) → AreEntries (leaf_entries ns) → IsMap (map_at w ns)
+pub IsMap-map_at : (w : ℕ) (ns : List NamedNode) → AreEntries (leaf_entries ns) → IsMap (map_at w ns)
 unfolding map_at
 IsMap-map_at w ns sound = All-each_element _ (entries (from_entries (leaf_entries (alive_nodes_at w ns)))) (λ e has.
     let n = leaf-which (alive_nodes_at w ns) e (from_entries-Contains (leaf_entries (alive_nodes_at w ns)) e has) in

@@ -13,7 +13,7 @@ use Rattle.jf_codec.specs.declared.format.Format.{Format}
 use Rattle.jf_payload.specs.declared.records.Commit.{Commit}
 use Rattle.jf_payload.specs.declared.records.Record.{Record}
 use Rattle.jf_payload.specs.declared.records.Record.TheVariants as «record»
-use Rattle.jf_standing.specs.Named.{Named, leaf_entry, leaf_entries, AreEntries, not_stale}
+use Rattle.jf_standing.specs.Named.{NamedNode, leaf_entry, leaf_entries, AreEntries, not_stale}
 use Rattle.jf_standing.specs.Standing.{Standing, unmarked_node, with_commit, with_floor}
 use Rattle.jf_standing.specs.Landing.{fresh_leaves, head_map, batch_of, landing_of}
 use Rattle.jf_standing.specs.Sound.{IsSound}
@@ -32,14 +32,14 @@ pub entries-nodes_after_commit : (s : Standing) (c : Commit) → AreEntries (lea
 entries-nodes_after_commit s c keys own_keys = All-each_element _ (leaf_entries (nodes_after_commit c s.nodes)) (λ e has.
     let n = leaf-which (nodes_after_commit c s.nodes) e has in
     nodes_after_commit-cases c s.nodes n.0 n.1
-    (λ m stood same. All-of (λ f. IsKey f.0 × IsBytes f.1) (leaf_entries s.nodes) e keys (leaf-so s.nodes m e stood (ap leaf_entry (sym (marked-node c m) ∙ ap (λ (z : Named). z.1) same) ∙ n.2)))
-    (λ x own same. All-of (λ f. IsKey f.0 × IsBytes f.1) (fresh_leaves c) e own_keys (leaf-so (map unmarked_node c.fresh) (unmarked_node x) e (Contains-map unmarked_node c.fresh x own) (ap (λ (z : Named). leaf_entry z.1) same ∙ n.2))))
+    (λ m stood same. All-of (λ f. IsKey f.0 × IsBytes f.1) (leaf_entries s.nodes) e keys (leaf-so s.nodes m e stood (ap leaf_entry (sym (marked-node c m) ∙ ap (λ (z : NamedNode). z.1) same) ∙ n.2)))
+    (λ x own same. All-of (λ f. IsKey f.0 × IsBytes f.1) (fresh_leaves c) e own_keys (leaf-so (map unmarked_node c.fresh) (unmarked_node x) e (Contains-map unmarked_node c.fresh x own) (ap (λ (z : NamedNode). leaf_entry z.1) same ∙ n.2))))
 
 -- under a later floor keys still have 32 bytes and values still are bytes
 pub entries-floored : (s : Standing) (floor : ℕ) → AreEntries (leaf_entries s.nodes) → AreEntries (leaf_entries (with_floor floor s).nodes)
 entries-floored s floor keys = All-each_element _ (leaf_entries (with_floor floor s).nodes) (λ e has.
     let n = leaf-which (with_floor floor s).nodes e has in
-    All-of (λ f. IsKey f.0 × IsBytes f.1) (leaf_entries s.nodes) e keys (leaf-so s.nodes n.0 e (filter-Contains (λ (m : Named). nat_lt floor m.2) s.nodes n.0 n.1) n.2))
+    All-of (λ f. IsKey f.0 × IsBytes f.1) (leaf_entries s.nodes) e keys (leaf-so s.nodes n.0 e (filter-Contains (λ (m : NamedNode). nat_lt floor m.2) s.nodes n.0 n.1) n.2))
 
 next-decided : (fmt : Format) (s : Standing) (c : Commit) → IsSound fmt s → AreEntries (leaf_entries s.nodes) → IsReadCommit c → (is_next fmt s c ≡ true) ↔ (Continues s c × IsSound fmt (with_commit c s))
 next-decided fmt s c sound keys read =

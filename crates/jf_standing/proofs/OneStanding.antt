@@ -7,7 +7,7 @@ use Rattle.jf_path.proofs.ListLaws.{All-of}
 use Rattle.jf_path.proofs.NumberLaws.{same_number, number_tells}
 use Rattle.jf_model.specs.Nodes.{Path, is_node, is_fresh, under, plain_node}
 use Rattle.jf_codec.specs.declared.format.Format.{Format}
-use Rattle.jf_standing.specs.Named.{is_alive, is_written, is_at, written_nodes_at, version_at, map_at, Named, is_stale, alive_nodes_at, stale_nodes_at}
+use Rattle.jf_standing.specs.Named.{is_alive, is_written, is_at, written_nodes_at, version_at, map_at, NamedNode, is_stale, alive_nodes_at, stale_nodes_at}
 use Rattle.jf_standing.specs.Standing.{Standing}
 use Rattle.jf_standing.specs.Sound.{IsSound, is_counted}
 use Rattle.jf_standing.proofs.Lists.{one-true}
@@ -68,7 +68,7 @@ module _ (fmt : Format) (s t : Standing) (s_sound : IsSound fmt s) (t_sound : Is
   same_version w low high p node = versions_from (w - s.floor) w (omega arith) high p node
 
 -- a node goes stale at the next version whose step makes the node at its path stale
-stale_alike : (fmt : Format) (t : Standing) → IsSound fmt t → (k : Named) → Contains t.nodes k → (x : ℕ) → t.floor < x → x ≤ t.head → k.0.version < x → x ≤ k.2 → is_fresh (entries (map_at x t.nodes)) (entries (map_at (x - 1) t.nodes)) k.0.path ≡ true → k.2 ≡ x
+stale_alike : (fmt : Format) (t : Standing) → IsSound fmt t → (k : NamedNode) → Contains t.nodes k → (x : ℕ) → t.floor < x → x ≤ t.head → k.0.version < x → x ≤ k.2 → is_fresh (entries (map_at x t.nodes)) (entries (map_at (x - 1) t.nodes)) k.0.path ≡ true → k.2 ≡ x
 stale_alike fmt t sound k has x late high written up is =
     let step = sound.steps x late high in
     let p = k.0.path in
@@ -78,13 +78,13 @@ stale_alike fmt t sound k has x late high written up is =
     let alive = All-of _ (stale_nodes_at x t.nodes) z.0 step.stood z.1 in
     let same = count-one (is_at p) (alive_nodes_at (x - 1) t.nodes) k z.0 (few-alive fmt t sound (x - 1) (omega arith) (omega arith) p)
     (Contains-filter (is_alive (x - 1)) t.nodes k has (alive-so (x - 1) k (omega arith) (omega arith))) (Contains-filter (is_alive (x - 1)) t.nodes z.0 stood alive) (at-so p k refl) z.2 in
-    ap (λ (n : Named). n.2) same ∙ at
+    ap (λ (n : NamedNode). n.2) same ∙ at
 
 module _ (fmt : Format) (s t : Standing) (s_sound : IsSound fmt s) (t_sound : IsSound fmt t) (same_floor : t.floor ≡ s.floor) (same_head : t.head ≡ s.head)
     (same_maps : (w : ℕ) → s.floor ≤ w → w ≤ s.head → map_at w t.nodes ≡ map_at w s.nodes)
     (same_versions : (p : Path) → is_node 0 p (entries (map_at s.floor s.nodes)) ≡ true → version_at s.floor t.nodes p ≡ version_at s.floor s.nodes p) where
   -- the node of the other standing with the same name and content
-  twin : (n : Named) → Contains s.nodes n → (w : ℕ) → s.floor ≤ w → w ≤ s.head → is_alive w n ≡ true → (k : Named) × Contains (alive_nodes_at w t.nodes) k × (k.0 ≡ n.0) × (k.1 ≡ n.1)
+  twin : (n : NamedNode) → Contains s.nodes n → (w : ℕ) → s.floor ≤ w → w ≤ s.head → is_alive w n ≡ true → (k : NamedNode) × Contains (alive_nodes_at w t.nodes) k × (k.0 ≡ n.0) × (k.1 ≡ n.1)
   twin n has w low high alive =
       let p = n.0.path in
       let here = same_maps w low high in
@@ -105,7 +105,7 @@ module _ (fmt : Format) (s t : Standing) (s_sound : IsSound fmt s) (t_sound : Is
       )
 
   -- both nodes are stale since the same version
-  twin_since : (n k : Named) → Contains s.nodes n → Contains t.nodes k → k.0 ≡ n.0 → (w : ℕ) → s.floor ≤ w → w ≤ s.head → is_alive w n ≡ true → is_alive w k ≡ true → k.2 ≡ n.2
+  twin_since : (n k : NamedNode) → Contains s.nodes n → Contains t.nodes k → k.0 ≡ n.0 → (w : ℕ) → s.floor ≤ w → w ≤ s.head → is_alive w n ≡ true → is_alive w k ≡ true → k.2 ≡ n.2
   twin_since n k has_n has_k same w low high alive_n alive_k =
       let tells_n = alive-tells w n alive_n in
       let tells_k = alive-tells w k alive_k in
@@ -143,7 +143,7 @@ module _ (fmt : Format) (s t : Standing) (s_sound : IsSound fmt s) (t_sound : Is
       ]
 
   -- each node of one standing is a node of the other
-  pub same-standing : (n : Named) → Contains s.nodes n → Contains t.nodes n
+  pub same-standing : (n : NamedNode) → Contains s.nodes n → Contains t.nodes n
   same-standing n has = elim (cases_lt s.floor n.0.version) [
     | inl late ↦ at n.0.version (omega arith) (version-low fmt s s_sound n has) (alive-so n.0.version n (omega arith) (version-before fmt s s_sound n has))
     | inr early ↦ at s.floor (omega arith) s_sound.floor_low (alive-so s.floor n early (since-high fmt s s_sound n has))

@@ -21,7 +21,7 @@ use Rattle.jf_payload.specs.declared.records.Commit.{Commit}
 use Rattle.jf_walk.proofs.FreshOrder.{sorted-fresh}
 use Rattle.jf_standing.specs.Standing.{Standing, marked_node, unmarked_node, is_named}
 use Rattle.jf_standing.specs.Landing.{written_node, head_map, landing_of}
-use Rattle.jf_standing.specs.Named.{not_stale, Named, is_written, is_at, written_nodes_at, is_stale, is_alive, stale_nodes_at, alive_nodes_at}
+use Rattle.jf_standing.specs.Named.{not_stale, NamedNode, is_written, is_at, written_nodes_at, is_stale, is_alive, stale_nodes_at, alive_nodes_at}
 use Rattle.jf_standing.specs.Sound.{IsSound, StandAt}
 use Rattle.jf_standing.proofs.Lists.{one, All-each_element, one-true}
 use Rattle.jf_standing.proofs.Counts.{count-same, count-some, count-which, count-none, count-append, count-filter, count-map}
@@ -67,7 +67,7 @@ module _ (fmt : Format) (s : Standing) (m : Map) (sound : IsSound fmt s) (keys :
   -- ---- paths
   pub placed-fresh : StandAt (is_fresh (entries (head_map s)) (entries m)) (written_nodes_at (s.head + 1) (nodes_after_commit landing s.nodes))
   placed-fresh p =
-      let test : Named → Bool = λ n. is_written (s.head + 1) n && is_at p n in
+      let test : NamedNode → Bool = λ n. is_written (s.head + 1) n && is_at p n in
       let old : count_by test (map (marked_node landing) s.nodes) ≡ 0 = count-map test (marked_node landing) s.nodes ∙ count-none (λ n. test (marked_node landing n)) s.nodes (All-each_element _ s.nodes (λ n has.
       ap (λ b. b && is_at p (marked_node landing n)) (other_number (marked_node landing n).0.version (s.head + 1) (λ is. let low = version-low fmt s sound n has in let v = ap (λ k. k.version) (marked-name landing n) in omega arith)))) in
       let new : count_by test (map unmarked_node landing.fresh) ≡ one (is_fresh (entries (head_map s)) (entries m) p) =
@@ -77,7 +77,7 @@ module _ (fmt : Format) (s : Standing) (m : Map) (sound : IsSound fmt s) (keys :
       ∙ listed-count (head_map s) m p own_keys in
       omega (arith, old, new, count-filter (is_at p) (is_written (s.head + 1)) (nodes_after_commit landing s.nodes), count-append test (map (marked_node landing) s.nodes) (map unmarked_node landing.fresh))
 
-  stale_marked : (n : Named) → Contains s.nodes n → is_stale (s.head + 1) (marked_node landing n) ≡ is_named n.0 landing.stale
+  stale_marked : (n : NamedNode) → Contains s.nodes n → is_stale (s.head + 1) (marked_node landing n) ≡ is_named n.0 landing.stale
   stale_marked n has = elim (is_named n.0 landing.stale) as (λ b. is_stale (s.head + 1) (cond b (n.0, n.1, s.head + 1) n) ≡ b) [
     | true ↦ same_number (s.head + 1) (s.head + 1) refl
     | false ↦ other_number n.2 (s.head + 1) (elim (All-of _ s.nodes n sound.gone has) [ inl none ↦ (λ is. omega arith) | inr late ↦ (λ is. let up = late.1 in omega arith) ])
@@ -85,7 +85,7 @@ module _ (fmt : Format) (s : Standing) (m : Map) (sound : IsSound fmt s) (keys :
 
   pub placed-stale : StandAt (is_fresh (entries m) (entries (head_map s))) (stale_nodes_at (s.head + 1) (nodes_after_commit landing s.nodes))
   placed-stale p =
-      let test : Named → Bool = λ n. is_stale (s.head + 1) n && is_at p n in
+      let test : NamedNode → Bool = λ n. is_stale (s.head + 1) n && is_at p n in
       let gone = is_fresh (entries m) (entries (head_map s)) p in
       let new : count_by test (map unmarked_node landing.fresh) ≡ 0 = count-map test unmarked_node landing.fresh ∙ count-none (λ x. test (unmarked_node x)) landing.fresh (All-each_element _ landing.fresh (λ x has. ap (λ b. b && is_at p (unmarked_node x)) (other_number not_stale (s.head + 1) (λ is. omega arith)))) in
       let old : count_by test (map (marked_node landing) s.nodes) ≡ count_by (λ n. gone && (is_alive s.head n && is_at p n)) s.nodes =
@@ -103,16 +103,16 @@ module _ (fmt : Format) (s : Standing) (m : Map) (sound : IsSound fmt s) (keys :
       swapped true false x y same = (elim x as (λ z. (z && false) ≡ false) [ true ↦ refl | false ↦ refl ]) ∙ (elim y as (λ z. false ≡ (z && false)) [ true ↦ refl | false ↦ refl ])
       swapped false b x y same = elim y as (λ z. false ≡ (z && false)) [ true ↦ refl | false ↦ refl ]
 
-      under_test : (b : Bool) (test : Named → Bool) (ns : List Named) → (b ≡ true → count_by test ns ≡ 1) → count_by (λ n. b && test n) ns ≡ one b
+      under_test : (b : Bool) (test : NamedNode → Bool) (ns : List NamedNode) → (b ≡ true → count_by test ns ≡ 1) → count_by (λ n. b && test n) ns ≡ one b
       under_test true test ns is = is refl
       under_test false test ns is = count-none (λ n. false) ns (All-each_element _ ns (λ n has. refl))
 
   after_before : AllByRecursion (λ n. n.0.version < n.2) (nodes_after_commit landing s.nodes)
   after_before = All-each_element _ (nodes_after_commit landing s.nodes) (λ n has. nodes_after_commit-cases landing s.nodes n has
-      (λ k stood same. subst (λ (z : Named). z.0.version < z.2) same (marked_before k stood))
-      (λ x own same. subst (λ (z : Named). z.0.version < z.2) same (let v = All-of (λ x. x.0.version ≡ s.head + 1) landing.fresh x (fresh-own fmt s m) own in omega arith)))
+      (λ k stood same. subst (λ (z : NamedNode). z.0.version < z.2) same (marked_before k stood))
+      (λ x own same. subst (λ (z : NamedNode). z.0.version < z.2) same (let v = All-of (λ x. x.0.version ≡ s.head + 1) landing.fresh x (fresh-own fmt s m) own in omega arith)))
     where
-      marked_before : (k : Named) → Contains s.nodes k → (marked_node landing k).0.version < (marked_node landing k).2
+      marked_before : (k : NamedNode) → Contains s.nodes k → (marked_node landing k).0.version < (marked_node landing k).2
       marked_before k stood = elim (is_named k.0 landing.stale) as (λ b. (cond b (k.0, k.1, s.head + 1) k).0.version < (cond b (k.0, k.1, s.head + 1) k).2) [
         | true ↦ let low = version-low fmt s sound k stood in omega arith
         | false ↦ version-before fmt s sound k stood

@@ -12,7 +12,7 @@ use Rattle.jf_hash.proofs.KeyOrder.{same_key-exact}
 use Rattle.jf_hash.proofs.MapLaws.{value_after, same_map, get-apply-sorted}
 use Rattle.jf_codec.specs.declared.format.Format.{Format}
 use Rattle.jf_payload.specs.declared.records.Commit.{Commit}
-use Rattle.jf_standing.specs.Named.{alive_nodes_at, leaf_entries, Named, is_alive, leaf_entry, map_at}
+use Rattle.jf_standing.specs.Named.{alive_nodes_at, leaf_entries, NamedNode, is_alive, leaf_entry, map_at}
 use Rattle.jf_standing.specs.Standing.{Standing, with_commit, is_named, unmarked_node, marked_node}
 use Rattle.jf_standing.specs.Sound.{IsSound}
 use Rattle.jf_standing.specs.Taking.{Continues}
@@ -36,7 +36,7 @@ module _ (fmt : Format) (s : Standing) (c : Commit) (sound : IsSound fmt s) (goe
   old_leaves = leaf_entries (alive_nodes_at s.head s.nodes)
 
   -- a leaf after the landing is written by it, or stood before and isn't named
-  leaf_cases : {P : Type 0} (e : List ℕ × List ℕ) → Contains new_leaves e → (Contains (fresh_leaves c) e → P) → ((k : Named) → Contains s.nodes k → is_named k.0 c.stale ≡ false → Contains (alive_nodes_at s.head s.nodes) k → leaf_entry k.1 ≡ Some e → P) → P
+  leaf_cases : {P : Type 0} (e : List ℕ × List ℕ) → Contains new_leaves e → (Contains (fresh_leaves c) e → P) → ((k : NamedNode) → Contains s.nodes k → is_named k.0 c.stale ≡ false → Contains (alive_nodes_at s.head s.nodes) k → leaf_entry k.1 ≡ Some e → P) → P
   leaf_cases {P} e has fresh old =
       let n = leaf-which (alive_nodes_at c.version (nodes_after_commit c s.nodes)) e has in
       let alive = filter-passes (is_alive c.version) (nodes_after_commit c s.nodes) n.0 n.1 in
@@ -47,9 +47,9 @@ module _ (fmt : Format) (s : Standing) (c : Commit) (sound : IsSound fmt s) (goe
             let is_k : n.0 ≡ k = sym same ∙ marked-not c k free in
             let up = (alive-tells c.version k (ap (is_alive c.version) (sym is_k) ∙ alive)).1 in
             let next = goes.next in
-            old k stood free (Contains-filter (is_alive s.head) s.nodes k stood (alive-so s.head k (version-low fmt s sound k stood) (omega arith))) (ap (λ (z : Named). leaf_entry z.1) (sym is_k) ∙ n.2)
+            old k stood free (Contains-filter (is_alive s.head) s.nodes k stood (alive-so s.head k (version-low fmt s sound k stood) (omega arith))) (ap (λ (z : NamedNode). leaf_entry z.1) (sym is_k) ∙ n.2)
       ] refl)
-      (λ x own same. fresh (leaf-so (map unmarked_node c.fresh) (unmarked_node x) e (Contains-map unmarked_node c.fresh x own) (ap (λ (z : Named). leaf_entry z.1) same ∙ n.2)))
+      (λ x own same. fresh (leaf-so (map unmarked_node c.fresh) (unmarked_node x) e (Contains-map unmarked_node c.fresh x own) (ap (λ (z : NamedNode). leaf_entry z.1) same ∙ n.2)))
 
   -- a leaf that the landing writes is a leaf after it
   fresh_there : (e : List ℕ × List ℕ) → Contains (fresh_leaves c) e → Contains new_leaves e
@@ -61,7 +61,7 @@ module _ (fmt : Format) (s : Standing) (c : Commit) (sound : IsSound fmt s) (goe
       leaf-so (alive_nodes_at c.version (nodes_after_commit c s.nodes)) n.0 e (Contains-filter (is_alive c.version) (nodes_after_commit c s.nodes) n.0 (Contains-append_right (map (marked_node c) s.nodes) (map unmarked_node c.fresh) n.0 n.1) alive) n.2
 
   -- a leaf that stood before and isn't named is a leaf after the landing
-  old_there : (k : Named) (e : List ℕ × List ℕ) → Contains (alive_nodes_at s.head s.nodes) k → is_named k.0 c.stale ≡ false → leaf_entry k.1 ≡ Some e → Contains new_leaves e
+  old_there : (k : NamedNode) (e : List ℕ × List ℕ) → Contains (alive_nodes_at s.head s.nodes) k → is_named k.0 c.stale ≡ false → leaf_entry k.1 ≡ Some e → Contains new_leaves e
   old_there k e has free is =
       let stood = filter-Contains (is_alive s.head) s.nodes k has in
       let tells = alive-tells s.head k (filter-passes (is_alive s.head) s.nodes k has) in
@@ -71,7 +71,7 @@ module _ (fmt : Format) (s : Standing) (c : Commit) (sound : IsSound fmt s) (goe
       let up : c.version < k.2 = elim (All-of _ s.nodes k sound.gone stood) [ inl none ↦ omega arith | inr late ↦ absurd (let a = late.1 in let b = tells.1 in omega arith) ] in
       leaf-so (alive_nodes_at c.version (nodes_after_commit c s.nodes)) (marked_node c k) e
       (Contains-filter (is_alive c.version) (nodes_after_commit c s.nodes) (marked_node c k) (Contains-nodes_after_commit c s.nodes k stood) (ap (is_alive c.version) same ∙ alive-so c.version k (let low = tells.0 in omega arith) up))
-      (ap (λ (z : Named). leaf_entry z.1) same ∙ is)
+      (ap (λ (z : NamedNode). leaf_entry z.1) same ∙ is)
 
   found : (q : List ℕ) (v : List ℕ) → Contains new_leaves (q, v) → find key_cmp q new_leaves ≡ Some v
   found q v has = distinct-find new_leaves (q, v) (behind_sound.versions c.version (let next = goes.next in let low = sound.floor_low in omega arith) (omega arith)).one_leaf has
@@ -96,7 +96,7 @@ module _ (fmt : Format) (s : Standing) (c : Commit) (sound : IsSound fmt s) (goe
           let alive = Contains-filter (is_alive s.head) s.nodes n.0 stood (named_was fmt s c sound goes behind_sound n.0 stood named).0 in
           absent q (λ v there. leaf_cases (q, v) there (not_fresh q v is) (λ k in_s free here leaf.
           let same = one-leaf (alive_nodes_at s.head s.nodes) n.0 k (q, w) (q, v) (sound.versions s.head sound.floor_low (omega arith)).one_leaf alive here n.2 leaf refl in
-          true≢false (sym named ∙ ap (λ (z : Named). is_named z.0 c.stale) same ∙ free)))
+          true≢false (sym named ∙ ap (λ (z : NamedNode). is_named z.0 c.stale) same ∙ free)))
           ∙ ap (λ o. value_after o (find key_cmp q old_leaves)) (sym (said-removal q w (fresh_leaves c) (stale_leaves s c) is gone))
       | None ↦ λ stays.
           (elim (find key_cmp q old_leaves) as (λ r. find key_cmp q old_leaves ≡ r → find key_cmp q new_leaves ≡ r) [

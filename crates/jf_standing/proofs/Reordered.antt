@@ -18,7 +18,7 @@ use Rattle.jf_model.specs.Nodes.{Path, under, is_node, is_fresh, plain_node}
 use Rattle.jf_codec.specs.declared.format.Format.{Format}
 use Rattle.jf_path.proofs.ListLaws.{All-of}
 use Rattle.jf_path.proofs.FilterLaws.{Contains-filter, filter-Contains, filter-passes}
-use Rattle.jf_standing.specs.Named.{Named, is_alive, is_written, is_stale, is_at, alive_nodes_at, stale_nodes_at, version_at, leaf_entries, map_at}
+use Rattle.jf_standing.specs.Named.{NamedNode, is_alive, is_written, is_stale, is_at, alive_nodes_at, stale_nodes_at, version_at, leaf_entries, map_at}
 use Rattle.jf_standing.specs.Standing.{Standing, versions_of, with_nodes}
 use Rattle.jf_standing.specs.Sound.{is_counted, IsVersion, IsStep, IsSound}
 use Rattle.jf_standing.proofs.Lists.{All-each_element}
@@ -48,26 +48,26 @@ module _ {X : Type 0} (xs ys : List X) (moved : IsPermutation xs ys) where
   moved-back q x has = Contains-filter q xs x (Contains-permutation ys xs x (IsPermutation-sym xs ys moved) (filter-Contains q ys x has)) (filter-passes q ys x has)
 
 -- an empty list of nodes gives the version 0
-no_version : (ns : List Named) → length ns ≡ 0 → slice_index_or (map (λ n. n.0.version) ns) 0 0 ≡ 0
+no_version : (ns : List NamedNode) → length ns ≡ 0 → slice_index_or (map (λ n. n.0.version) ns) 0 0 ≡ 0
 no_version [] none = refl
 no_version (n ∷ ns) none = absurd (omega (arith, none))
 
-version_none : (w : ℕ) (ns : List Named) (p : Path) → count_by (is_at p) (alive_nodes_at w ns) ≡ 0 → version_at w ns p ≡ 0
+version_none : (w : ℕ) (ns : List NamedNode) (p : Path) → count_by (is_at p) (alive_nodes_at w ns) ≡ 0 → version_at w ns p ≡ 0
 version_none w ns p none = no_version (filter (is_at p) (alive_nodes_at w ns)) (length-filter (is_at p) (alive_nodes_at w ns) ∙ none)
 
-module _ (fmt : Format) (s : Standing) (ns : List Named) (sound : IsSound fmt s) (moved : IsPermutation s.nodes ns) where
+module _ (fmt : Format) (s : Standing) (ns : List NamedNode) (sound : IsSound fmt s) (moved : IsPermutation s.nodes ns) where
   module _ (w : ℕ) (low : s.floor ≤ w) (high : w ≤ s.head) where
     few_moved : (p : Path) → count_by (is_at p) (alive_nodes_at w ns) ≤ 1
     few_moved p = omega (arith, few-alive fmt s sound w low high p, count-moved_filter s.nodes ns moved (is_at p) (is_alive w))
 
-    there : (n : Named) → Contains (alive_nodes_at w s.nodes) n → Contains (alive_nodes_at w ns) n
+    there : (n : NamedNode) → Contains (alive_nodes_at w s.nodes) n → Contains (alive_nodes_at w ns) n
     there n has = moved-there s.nodes ns moved (is_alive w) n has
 
-    back : (n : Named) → Contains (alive_nodes_at w ns) n → Contains (alive_nodes_at w s.nodes) n
+    back : (n : NamedNode) → Contains (alive_nodes_at w ns) n → Contains (alive_nodes_at w s.nodes) n
     back n has = moved-back s.nodes ns moved (is_alive w) n has
 
     apart_moved : IsDistinct same_key (map (λ (e : List ℕ × List ℕ). e.0) (leaf_entries (alive_nodes_at w ns)))
-    apart_moved = keys_apart (alive_nodes_at w ns) few_moved (λ a b e f ha hb is_a is_b same. ap (λ (z : Named). z.0.path) (one-leaf (alive_nodes_at w s.nodes) a b e f (sound.versions w low high).one_leaf (back a ha) (back b hb) is_a is_b same))
+    apart_moved = keys_apart (alive_nodes_at w ns) few_moved (λ a b e f ha hb is_a is_b same. ap (λ (z : NamedNode). z.0.path) (one-leaf (alive_nodes_at w s.nodes) a b e f (sound.versions w low high).one_leaf (back a ha) (back b hb) is_a is_b same))
 
     leaf_there : (e : List ℕ × List ℕ) → Contains (leaf_entries (alive_nodes_at w s.nodes)) e → Contains (leaf_entries (alive_nodes_at w ns)) e
     leaf_there e has = let n = leaf-which (alive_nodes_at w s.nodes) e has in leaf-so (alive_nodes_at w ns) n.0 e (there n.0 n.1) n.2

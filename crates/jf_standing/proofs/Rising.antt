@@ -19,7 +19,7 @@ use Rattle.jf_model.specs.Nodes.{fresh}
 use Rattle.jf_codec.specs.declared.format.Format.{Format}
 use Rattle.jf_payload.specs.declared.records.Commit.{Commit}
 use Rattle.jf_walk.proofs.FreshOrder.{sorted-fresh}
-use Rattle.jf_standing.specs.Named.{Named, leaf_entry}
+use Rattle.jf_standing.specs.Named.{NamedNode, leaf_entry}
 use Rattle.jf_standing.specs.Building.{apart}
 use Rattle.jf_standing.specs.Standing.{Standing, marked_node, unmarked_node, with_commit, with_floor}
 use Rattle.jf_standing.specs.Sound.{IsSound, is_counted}
@@ -51,17 +51,17 @@ module _ {X : Type 0} where
   sorted_append (x ∷ xs) ys h k a = both_so _ _ (below_append x.0 xs ys (left_so _ _ h) a.0) (sorted_append xs ys (right_so _ _ h) k a.1)
 
 -- nodes by name, as entries
-abbrev pairs : List Named → List (NodeName × (PlainNode × ℕ))
+abbrev pairs : List NamedNode → List (NodeName × (PlainNode × ℕ))
 pairs ns = map apart ns
 
-pair_names : (ns : List Named) → map (λ e. e.0) (pairs ns) ≡ map (λ n. n.0) ns
+pair_names : (ns : List NamedNode) → map (λ e. e.0) (pairs ns) ≡ map (λ n. n.0) ns
 pair_names [] = refl
 pair_names (n ∷ ns) = ap (λ t. n.0 ∷ t) (pair_names ns)
 
-pairs_sorted : (ns : List Named) → IsTrue (are_rising (map (λ n. n.0) ns)) → T (is_sorted name_cmp (pairs ns))
+pairs_sorted : (ns : List NamedNode) → IsTrue (are_rising (map (λ n. n.0) ns)) → T (is_sorted name_cmp (pairs ns))
 pairs_sorted ns rises = are_rising-sorted (pairs ns) (subst (λ xs. IsTrue (are_rising xs)) (sym (pair_names ns)) rises)
 
-pairs_rise : (ns : List Named) → T (is_sorted name_cmp (pairs ns)) → IsTrue (are_rising (map (λ n. n.0) ns))
+pairs_rise : (ns : List NamedNode) → T (is_sorted name_cmp (pairs ns)) → IsTrue (are_rising (map (λ n. n.0) ns))
 pairs_rise ns sorted = subst (λ xs. IsTrue (are_rising xs)) (pair_names ns) (sorted-are_rising (pairs ns) sorted)
 
 -- names still rise after a landing
@@ -74,15 +74,15 @@ are_rising-after fmt s c sound rises goes order =
     let k = map-which apart (map (marked_node c) s.nodes) e has in
     let n = map-which (marked_node c) s.nodes k.0 k.1 in
     let low = version-low fmt s sound n.0 n.1 in
-    let v : n.0.0.version ≡ e.0.version = ap (λ m. m.version) (sym (marked-name c n.0)) ∙ ap (λ (z : Named). z.0.version) n.2 ∙ ap (λ (z : NodeName × (PlainNode × ℕ)). z.0.version) k.2 in
+    let v : n.0.0.version ≡ e.0.version = ap (λ m. m.version) (sym (marked-name c n.0)) ∙ ap (λ (z : NamedNode). z.0.version) n.2 ∙ ap (λ (z : NodeName × (PlainNode × ℕ)). z.0.version) k.2 in
     let next = goes.next in
     all_above e.0 c.fresh goes.fresh_own (omega arith)))))
   where
-    names_marked : (ns : List Named) → map (λ (n : Named). n.0) (map (marked_node c) ns) ≡ map (λ n. n.0) ns
+    names_marked : (ns : List NamedNode) → map (λ (n : NamedNode). n.0) (map (marked_node c) ns) ≡ map (λ n. n.0) ns
     names_marked [] = refl
     names_marked (n ∷ ns) = ap₂ (λ x t. x ∷ t) (marked-name c n) (names_marked ns)
 
-    names_unmarked : (xs : List (NodeName × PlainNode)) → map (λ (n : Named). n.0) (map unmarked_node xs) ≡ map (λ x. x.0) xs
+    names_unmarked : (xs : List (NodeName × PlainNode)) → map (λ (n : NamedNode). n.0) (map unmarked_node xs) ≡ map (λ x. x.0) xs
     names_unmarked [] = refl
     names_unmarked (x ∷ xs) = ap (λ t. x.0 ∷ t) (names_unmarked xs)
 
@@ -103,7 +103,7 @@ module _ {X : Type 0} where
 pub are_rising-floored : (s : Standing) (floor : ℕ) → IsTrue (are_rising (map (λ n. n.0) s.nodes)) → IsTrue (are_rising (map (λ n. n.0) (with_floor floor s).nodes))
 are_rising-floored s floor rises = pairs_rise (with_floor floor s).nodes (subst (λ es. T (is_sorted name_cmp es)) (same s.nodes) (sorted_filter (λ e. nat_lt floor e.1.1) (pairs s.nodes) (pairs_sorted s.nodes rises)))
   where
-    same : (ns : List Named) → filter (λ e. nat_lt floor e.1.1) (pairs ns) ≡ pairs (filter (λ n. nat_lt floor n.2) ns)
+    same : (ns : List NamedNode) → filter (λ e. nat_lt floor e.1.1) (pairs ns) ≡ pairs (filter (λ n. nat_lt floor n.2) ns)
     same [] = refl
     same (n ∷ ns) = elim (nat_lt floor n.2) as (λ b. cond b ((n.0, (n.1, n.2)) ∷ filter (λ e. nat_lt floor e.1.1) (pairs ns)) (filter (λ e. nat_lt floor e.1.1) (pairs ns)) ≡ pairs (cond b (n ∷ filter (λ n. nat_lt floor n.2) ns) (filter (λ n. nat_lt floor n.2) ns))) [
       | true ↦ ap (λ t. (n.0, (n.1, n.2)) ∷ t) (same ns)
@@ -122,7 +122,7 @@ landing-read fmt s m sound = (
       let y = map-which unmarked_node (landing_of fmt s m).fresh n.0 n.1 in
       let x = map-which (written_node fmt s m) (fresh (head_map s) m) y.0 y.1 in
       let is = listed-fresh (head_map s) m x.0 x.1 in
-      let leaf = ap (λ (z : NodeName × PlainNode). leaf_entry z.1) x.2 ∙ ap (λ (z : Named). leaf_entry z.1) y.2 ∙ n.2 in
+      let leaf = ap (λ (z : NodeName × PlainNode). leaf_entry z.1) x.2 ∙ ap (λ (z : NamedNode). leaf_entry z.1) y.2 ∙ n.2 in
       let alone = leaf-plain (is_counted fmt) _ (length x.0.0) x.0.1 e leaf in
       All-of (λ f. IsKey f.0 × IsBytes f.1) (entries m) e sound (under-Contains 0 x.0.0 (entries m) e (subst (λ es. Contains es e) (sym alone ∙ is.1) (Contains-first e [])))),
 )

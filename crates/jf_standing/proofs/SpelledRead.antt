@@ -15,7 +15,7 @@ use Rattle.jf_payload.specs.declared.records.Commit.{Commit}
 use Rattle.jf_payload.specs.Spelling.{IsCommit, IsRecord}
 use Rattle.jf_payload.specs.declared.records.Record.{Record}
 use Rattle.jf_payload.specs.declared.records.Record.TheVariants as «record»
-use Rattle.jf_standing.specs.Named.{leaf_entry, AreEntries, Named, leaf_entries}
+use Rattle.jf_standing.specs.Named.{leaf_entry, AreEntries, NamedNode, leaf_entries}
 use Rattle.jf_standing.specs.Standing.{unmarked_node}
 use Rattle.jf_standing.specs.Next.{IsReadCommit, IsReadRecord}
 use Rattle.jf_standing.specs.Begin.{IsReadFirst}
@@ -25,7 +25,7 @@ entry-of fmt node.Null es is all = all
 entry-of fmt (node.Leaf key value) es is all = ((is.0, is.1), all)
 entry-of fmt (node.Inner cs) es is all = all
 
-live-entries : (fmt : Format) (ns : List Named) → AllByRecursion (λ n. IsName n.0 × IsNode fmt n.1 × (n.2 < 2 ^ 64)) ns → AreEntries (leaf_entries ns)
+live-entries : (fmt : Format) (ns : List NamedNode) → AllByRecursion (λ n. IsName n.0 × IsNode fmt n.1 × (n.2 < 2 ^ 64)) ns → AreEntries (leaf_entries ns)
 live-entries fmt [] all = tt
 live-entries fmt (n ∷ ns) all = entry-of fmt n.1 (leaf_entries ns) all.0.1 (live-entries fmt ns all.1)
 

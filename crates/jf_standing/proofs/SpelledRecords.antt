@@ -17,7 +17,7 @@ use Rattle.jf_payload.specs.Counted.{written_in_format}
 use Rattle.jf_standing.specs.SpellingLaws.{LandingsAreSpelled, LandingsAreKept, CheckpointsAreSpelled}
 use Rattle.jf_standing.specs.Standing.{Standing}
 use Rattle.jf_standing.specs.Landing.{version_after, written_node, head_map, landing_of}
-use Rattle.jf_standing.specs.Named.{Named}
+use Rattle.jf_standing.specs.Named.{NamedNode}
 use Rattle.jf_standing.specs.Building.{as_named, apart, nodes_by_name}
 use Rattle.jf_standing.specs.Order.{by_name}
 use Rattle.jf_standing.proofs.Leaves.{IsMap-map_at}
@@ -59,11 +59,11 @@ landing-kept fmt s m =
     ap (λ (ys : List (NodeName × PlainNode)). record { version = (landing_of fmt s m).version; root = (landing_of fmt s m).root; fresh = ys; stale = (landing_of fmt s m).stale }) (all-kept fmt s m (fresh (head_map s) m))
 
 -- ---- checkpoints
-named-names : (es : List (NodeName × (PlainNode × ℕ))) → map (λ (n : Named). n.0) (map as_named es) ≡ map (λ e. e.0) es
+named-names : (es : List (NodeName × (PlainNode × ℕ))) → map (λ (n : NamedNode). n.0) (map as_named es) ≡ map (λ e. e.0) es
 named-names [] = refl
 named-names (e ∷ es) = ap (λ (ns : List NodeName). e.0 ∷ ns) (named-names es)
 
-pub nodes-are_rising : (ns : List Named) → IsTrue (are_rising (map (λ (n : Named). n.0) (nodes_by_name ns)))
+pub nodes-are_rising : (ns : List NamedNode) → IsTrue (are_rising (map (λ (n : NamedNode). n.0) (nodes_by_name ns)))
 nodes-are_rising ns = ap are_rising (named-names (by_name (map apart ns))) ∙ sorted-are_rising (by_name (map apart ns)) (sorted-by_name (map apart ns))
 
 pub checkpoint-spelled : CheckpointsAreSpelled
@@ -78,7 +78,7 @@ checkpoint-spelled fmt generation s sound keys short first last hashes few =
       head_last = let h = sound.head_last in omega arith;
       root_each = length-reverse s.roots ∙ sound.root_each;
       hashes = All-reverse IsKey s.roots hashes;
-      nodes_fit = All-each_element _ (nodes_by_name s.nodes) (λ n has. All-of (λ (k : Named). IsName k.0 × IsNode fmt k.1 × (k.2 < 2 ^ 64)) s.nodes n valid (Contains-permutation (nodes_by_name s.nodes) s.nodes n (IsPermutation-sym s.nodes (nodes_by_name s.nodes) moved) has));
+      nodes_fit = All-each_element _ (nodes_by_name s.nodes) (λ n has. All-of (λ (k : NamedNode). IsName k.0 × IsNode fmt k.1 × (k.2 < 2 ^ 64)) s.nodes n valid (Contains-permutation (nodes_by_name s.nodes) s.nodes n (IsPermutation-sym s.nodes (nodes_by_name s.nodes) moved) has));
       count = subst (λ (k : ℕ). k < 2 ^ 64) (sym (length_permutation s.nodes (nodes_by_name s.nodes) moved)) few;
       names_rise = nodes-are_rising s.nodes;
     }

@@ -9,7 +9,7 @@ use Rattle.jf_hash.specs.Slots.{Part}
 use Rattle.jf_model.specs.Nodes.{Path, same_part, under, is_node, is_fresh}
 use Rattle.jf_codec.specs.declared.format.Format.{Format}
 use Rattle.jf_walk.proofs.SameParts.{same_part-exact, same_part-refl}
-use Rattle.jf_standing.specs.Named.{Named, is_alive, is_written, is_stale, is_at, alive_nodes_at, written_nodes_at, stale_nodes_at, map_at}
+use Rattle.jf_standing.specs.Named.{NamedNode, is_alive, is_written, is_stale, is_at, alive_nodes_at, written_nodes_at, stale_nodes_at, map_at}
 use Rattle.jf_standing.specs.Sound.{StandAt, IsSound}
 use Rattle.jf_standing.specs.Standing.{Standing}
 use Rattle.jf_standing.proofs.Lists.{one}
@@ -22,7 +22,7 @@ balance v s w true before some = grind (arith, nat_tests)
 balance v s w false before some = grind (arith, nat_tests)
 
 -- at each path as many nodes are alive or went stale at w as were alive before or were written at w
-pub step-balance : (ns : List Named) (w : ℕ) (p : Path) → 1 ≤ w → AllByRecursion (λ n. n.0.version < n.2) ns
+pub step-balance : (ns : List NamedNode) (w : ℕ) (p : Path) → 1 ≤ w → AllByRecursion (λ n. n.0.version < n.2) ns
     → count_by (is_at p) (alive_nodes_at w ns) + count_by (is_at p) (stale_nodes_at w ns) ≡ count_by (is_at p) (alive_nodes_at (w - 1) ns) + count_by (is_at p) (written_nodes_at w ns)
 step-balance ns w p some before =
     ap₂ (λ a b. a + b) (count-filter (is_at p) (is_alive w) ns) (count-filter (is_at p) (is_stale w) ns)
@@ -54,7 +54,7 @@ path-balance old new (i ∷ p) =
 
 -- ---- all versions
 -- if the nodes of one map stand, and a step leads to another, then the nodes of that one stand
-pub step-stands : (ns : List Named) (w : ℕ) (old new : Part) → 1 ≤ w → AllByRecursion (λ n. n.0.version < n.2) ns
+pub step-stands : (ns : List NamedNode) (w : ℕ) (old new : Part) → 1 ≤ w → AllByRecursion (λ n. n.0.version < n.2) ns
     → StandAt (λ p. is_node 0 p old) (alive_nodes_at (w - 1) ns) → StandAt (is_fresh old new) (written_nodes_at w ns) → StandAt (is_fresh new old) (stale_nodes_at w ns)
     → StandAt (λ p. is_node 0 p new) (alive_nodes_at w ns)
 step-stands ns w old new some before stood fresh stale p =

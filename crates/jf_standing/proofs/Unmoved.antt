@@ -9,7 +9,7 @@ use Rattle.jf_path.proofs.BoolLaws.{left_true, right_true}
 use Rattle.jf_model.specs.Nodes.{Path, under, is_node}
 use Rattle.jf_codec.specs.declared.format.Format.{Format}
 use Rattle.jf_payload.specs.declared.records.Commit.{Commit}
-use Rattle.jf_standing.specs.Named.{Named, is_at, alive_nodes_at, map_at, is_alive}
+use Rattle.jf_standing.specs.Named.{NamedNode, is_at, alive_nodes_at, map_at, is_alive}
 use Rattle.jf_standing.specs.Sound.{is_counted, IsVersion, IsSound}
 use Rattle.jf_standing.specs.Standing.{Standing, marked_node, with_commit, unmarked_node}
 use Rattle.jf_standing.specs.Taking.{Continues}
@@ -21,20 +21,20 @@ use Rattle.jf_standing.proofs.Closure.{same_nodes}
 use Rattle.jf_standing.proofs.Marks.{marked-name, marked-node, alive-marked, nodes_after_commit, Contains-nodes_after_commit}
 
 -- the path of a node that stands at a path
-pub at-tells : (p : Path) (n : Named) → is_at p n ≡ true → n.0.path ≡ p
+pub at-tells : (p : Path) (n : NamedNode) → is_at p n ≡ true → n.0.path ≡ p
 at-tells p n is = (bytes_eq-Decides n.0.path p).0 is
 
-pub at-so : (p : Path) (n : Named) → n.0.path ≡ p → is_at p n ≡ true
+pub at-so : (p : Path) (n : NamedNode) → n.0.path ≡ p → is_at p n ≡ true
 at-so p n is = (bytes_eq-Decides n.0.path p).1 is
 
 -- a node alive at a version names exactly the children that it has in the map
-pub node-tells : (fmt : Format) (ns : List Named) (w : ℕ) (r : List ℕ) → IsVersion fmt ns w r → (n : Named) → Contains (alive_nodes_at w ns) n → (q : Path) → n.0.path ≡ q → (i : ℕ) → has_child i n.1 ≡ parts_at (0 + length q) i (under 0 q (entries (map_at w ns)))
+pub node-tells : (fmt : Format) (ns : List NamedNode) (w : ℕ) (r : List ℕ) → IsVersion fmt ns w r → (n : NamedNode) → Contains (alive_nodes_at w ns) n → (q : Path) → n.0.path ≡ q → (i : ℕ) → has_child i n.1 ≡ parts_at (0 + length q) i (under 0 q (entries (map_at w ns)))
 node-tells fmt ns w r version n has q at i =
     ap (has_child i) (All-of _ (alive_nodes_at w ns) n version.nodes has) ∙ has_child-plain (is_counted fmt) _ (length n.0.path) (under 0 n.0.path (entries (map_at w ns))) i
     ∙ ap (λ p. parts_at (length p) i (under 0 p (entries (map_at w ns)))) at ∙ ap (λ k. parts_at k i (under 0 q (entries (map_at w ns)))) (let e : length q ≡ 0 + length q = omega arith in e)
 
 -- if the map has a node at a path, a node is alive there
-pub alive-there : (fmt : Format) (s : Standing) → IsSound fmt s → (w : ℕ) → s.floor ≤ w → w ≤ s.head → (q : Path) → is_node 0 q (entries (map_at w s.nodes)) ≡ true → (n : Named) × Contains (alive_nodes_at w s.nodes) n × (n.0.path ≡ q)
+pub alive-there : (fmt : Format) (s : Standing) → IsSound fmt s → (w : ℕ) → s.floor ≤ w → w ≤ s.head → (q : Path) → is_node 0 q (entries (map_at w s.nodes)) ≡ true → (n : NamedNode) × Contains (alive_nodes_at w s.nodes) n × (n.0.path ≡ q)
 alive-there fmt s sound w low high q node =
     let counted = stands fmt s sound w low high q in
     let which = count-which (is_at q) (alive_nodes_at w s.nodes) (omega (arith, counted, one-true (is_node 0 q (entries (map_at w s.nodes))) node)) in

@@ -10,7 +10,7 @@ use Rattle.jf_model.specs.Nodes.{is_node}
 use Rattle.jf_codec.specs.declared.format.Format.{Format}
 use Rattle.jf_codec.specs.Spelling.{IsNode}
 use Rattle.jf_walk.proofs.NodePaths.{IsPath-is_node}
-use Rattle.jf_standing.specs.Named.{Named, is_alive, is_at, alive_nodes_at, map_at, version_at, leaf_entries, AreEntries}
+use Rattle.jf_standing.specs.Named.{NamedNode, is_alive, is_at, alive_nodes_at, map_at, version_at, leaf_entries, AreEntries}
 use Rattle.jf_standing.specs.Standing.{Standing}
 use Rattle.jf_standing.specs.Sound.{IsSound, IsNodeOf}
 use Rattle.jf_standing.proofs.Sinces.{alive-so, version-low, version-before}
@@ -24,7 +24,7 @@ use Rattle.jf_standing.proofs.Valid.{node-valid}
 
 module _ (fmt : Format) (s : Standing) (sound : IsSound fmt s) where
   -- each node is alive at some version
-  alive_somewhere : (n : Named) → Contains s.nodes n → (w : ℕ) × (s.floor ≤ w) × (w ≤ s.head) × (is_alive w n ≡ true)
+  alive_somewhere : (n : NamedNode) → Contains s.nodes n → (w : ℕ) × (s.floor ≤ w) × (w ≤ s.head) × (is_alive w n ≡ true)
   alive_somewhere n has =
       let before = version-before fmt s sound n has in
       let low = version-low fmt s sound n has in
@@ -36,13 +36,13 @@ module _ (fmt : Format) (s : Standing) (sound : IsSound fmt s) where
       ]
 
   -- the version since which a node is stale has 64 bits
-  since_fits : (n : Named) → Contains s.nodes n → n.2 < 2 ^ 64
+  since_fits : (n : NamedNode) → Contains s.nodes n → n.2 < 2 ^ 64
   since_fits n has =
       let last = sound.head_last in
       elim (All-of _ s.nodes n sound.gone has) [ inl none ↦ omega arith | inr late ↦ let down = late.1 in omega arith ]
 
   -- a node that is alive stands at a path of the map
-  alive_node : (w : ℕ) → s.floor ≤ w → w ≤ s.head → (n : Named) → Contains (alive_nodes_at w s.nodes) n → is_node 0 n.0.path (entries (map_at w s.nodes)) ≡ true
+  alive_node : (w : ℕ) → s.floor ≤ w → w ≤ s.head → (n : NamedNode) → Contains (alive_nodes_at w s.nodes) n → is_node 0 n.0.path (entries (map_at w s.nodes)) ≡ true
   alive_node w low high n has =
       let some = count-some (is_at n.0.path) (alive_nodes_at w s.nodes) n has (at-so n.0.path n refl) in
       elim (is_node 0 n.0.path (entries (map_at w s.nodes))) as (λ b. count_by (is_at n.0.path) (alive_nodes_at w s.nodes) ≡ cond b 1 0 → b ≡ true) [

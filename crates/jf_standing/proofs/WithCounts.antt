@@ -15,7 +15,7 @@ use Rattle.jf_codec.specs.declared.format.Format.{Format}
 use Rattle.jf_codec.specs.declared.format.Format.TheVariants as format
 use Rattle.jf_payload.specs.Counted.{commit_in}
 use Rattle.jf_standing.specs.Order.{by_name}
-use Rattle.jf_standing.specs.Named.{Named, not_stale, version_at, map_at, leaf_entries, AreEntries}
+use Rattle.jf_standing.specs.Named.{NamedNode, not_stale, version_at, map_at, leaf_entries, AreEntries}
 use Rattle.jf_standing.specs.Building.{apart, as_named, nodes_by_name, landed_on, built_standing, landings_of, all_landed, node_of, floor_of, up_from, rebuilt}
 use Rattle.jf_standing.specs.Standing.{Standing, with_commit, with_nodes}
 use Rattle.jf_standing.specs.Landing.{landing_of, head_map}
@@ -48,7 +48,7 @@ module _ (fmt : Format) where
   abbrev rest_kept : PlainNode × ℕ → PlainNode × ℕ
   rest_kept x = (in_format fmt x.0, x.1)
 
-  apart_kept : (ns : List Named) → map apart (map (named_in_format fmt) ns) ≡ map (on_value rest_kept) (map apart ns)
+  apart_kept : (ns : List NamedNode) → map apart (map (named_in_format fmt) ns) ≡ map (on_value rest_kept) (map apart ns)
   apart_kept [] = refl
   apart_kept (n ∷ ns) = ap (λ t. apart (named_in_format fmt n) ∷ t) (apart_kept ns)
 
@@ -56,7 +56,7 @@ module _ (fmt : Format) where
   named_kept [] = refl
   named_kept (e ∷ es) = ap (λ t. named_in_format fmt (as_named e) ∷ t) (named_kept es)
 
-  by_name_kept : (ns : List Named) → nodes_by_name (map (named_in_format fmt) ns) ≡ map (named_in_format fmt) (nodes_by_name ns)
+  by_name_kept : (ns : List NamedNode) → nodes_by_name (map (named_in_format fmt) ns) ≡ map (named_in_format fmt) (nodes_by_name ns)
   by_name_kept ns = ap (λ es. map as_named (by_name es)) (apart_kept ns) ∙ ap (map as_named) (by_name-values rest_kept (map apart ns)) ∙ named_kept (by_name (map apart ns))
 
   -- ---- the standing built anew
@@ -101,11 +101,11 @@ nodes_same fmt v w (x ∷ xs) same =
     (ap₂ (λ (a : ℕ) (n : PlainNode). (a, n)) (same x.0) (plain_node-same (is_counted fmt) (λ i. v (x.0 ++ i ∷ [])) (λ i. w (x.0 ++ i ∷ [])) (length x.0) x.1 (λ i some. same (x.0 ++ i ∷ []))))
     (nodes_same fmt v w xs same)
 
-maps_same : (ns ks : List Named) (ws : List ℕ) → ((w : ℕ) → map_at w ns ≡ map_at w ks) → map (λ w. map_at w ns) ws ≡ map (λ w. map_at w ks) ws
+maps_same : (ns ks : List NamedNode) (ws : List ℕ) → ((w : ℕ) → map_at w ns ≡ map_at w ks) → map (λ w. map_at w ns) ws ≡ map (λ w. map_at w ks) ws
 maps_same ns ks [] same = refl
 maps_same ns ks (w ∷ ws) same = ap₂ (λ m ms. m ∷ ms) (same w) (maps_same ns ks ws same)
 
-rebuilt_same : (fmt : Format) (s : Standing) (ns : List Named) → ((w : ℕ) → map_at w ns ≡ map_at w s.nodes) → ((w : ℕ) (p : Path) → version_at w ns p ≡ version_at w s.nodes p) → rebuilt fmt (with_nodes ns s) ≡ rebuilt fmt s
+rebuilt_same : (fmt : Format) (s : Standing) (ns : List NamedNode) → ((w : ℕ) → map_at w ns ≡ map_at w s.nodes) → ((w : ℕ) (p : Path) → version_at w ns p ≡ version_at w s.nodes p) → rebuilt fmt (with_nodes ns s) ≡ rebuilt fmt s
 rebuilt_same fmt s ns maps versions =
     ap₂ (λ t ms. built_standing fmt t ms)
     (ap₂ (λ m ks. record { base = s.base; floor = s.floor; head = s.floor; roots = root m ∷ drop (s.head - s.floor + 1) s.roots; nodes = ks }) (maps s.floor)
@@ -113,7 +113,7 @@ rebuilt_same fmt s ns maps versions =
     (maps_same ns s.nodes (up_from (s.floor + 1) (s.head - s.floor)) maps)
 
 -- ---- the standing with counts
-names_kept : (fmt : Format) (ns : List Named) → map (λ n. n.0) (map (named_in_format fmt) ns) ≡ map (λ n. n.0) ns
+names_kept : (fmt : Format) (ns : List NamedNode) → map (λ n. n.0) (map (named_in_format fmt) ns) ≡ map (λ n. n.0) ns
 names_kept fmt [] = refl
 names_kept fmt (n ∷ ns) = ap (λ names. n.0 ∷ names) (names_kept fmt ns)
 

@@ -4,7 +4,7 @@ use Rattle.std.specs.List.{list_all}
 use Rattle.std.specs.FinMap.{len}
 use Rattle.std.specs.Cmp.Lexicographic.{pointwise}
 use Rattle.jf_codec.specs.declared.format.Format.{Format}
-use Rattle.jf_standing.specs.Named.{Named, version_at, map_at}
+use Rattle.jf_standing.specs.Named.{NamedNode, version_at, map_at}
 use Rattle.jf_standing.specs.Standing.{Standing, down_from}
 use Rattle.jf_standing.specs.Same.{same_name, same_node}
 use Rattle.jf_standing.specs.Next.{IsReadStanding}
@@ -13,7 +13,7 @@ use Rattle.jf_payload.specs.declared.records.Record.{Record}
 use Rattle.jf_payload.specs.declared.records.Record.TheVariants as «record»
 
 -- whether two named nodes are equal
-abbrev pub same_named : Named → Named → Bool
+abbrev pub same_named : NamedNode → NamedNode → Bool
 same_named m n = same_name m.0 n.0 && (same_node m.1 n.1 && (m.2 == n.2))
 
 -- no map from the floor on has more than 2^63 entries

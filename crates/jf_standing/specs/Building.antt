@@ -8,7 +8,7 @@ use Rattle.jf_hash.specs.Roots.{root}
 use Rattle.jf_hash.specs.Slots.{Part}
 use Rattle.jf_model.specs.Nodes.{Path, nodes, plain_node}
 use Rattle.jf_codec.specs.declared.format.Format.{Format}
-use Rattle.jf_standing.specs.Named.{Named, not_stale, version_at, map_at}
+use Rattle.jf_standing.specs.Named.{NamedNode, not_stale, version_at, map_at}
 use Rattle.jf_standing.specs.Order.{by_name}
 use Rattle.jf_standing.specs.Standing.{Standing, with_commit}
 use Rattle.jf_standing.specs.Sound.{is_counted}
@@ -18,7 +18,7 @@ use Rattle.jf_payload.specs.declared.records.Record.{Record}
 use Rattle.jf_payload.specs.declared.records.Record.TheVariants as «record»
 
 -- a node of a map with its name, not stale; `version` gives the version of the node at each path
-abbrev pub node_of : Format → (Path → ℕ) → Path × Part → Named
+abbrev pub node_of : Format → (Path → ℕ) → Path × Part → NamedNode
 node_of fmt version x = (record { version = version x.0; path = x.0 }, plain_node (is_counted fmt) (λ i. version (x.0 ++ i ∷ [])) (length x.0) x.1, not_stale)
 
 -- a standing with one version, its floor: the nodes of one map
@@ -66,15 +66,15 @@ abbrev pub rebuilt : Format → Standing → Standing
 rebuilt fmt s = built_standing fmt (floor_of fmt s) (map (λ w. map_at w s.nodes) (up_from (s.floor + 1) (s.head - s.floor)))
 
 -- a named node as a name and a value
-abbrev pub apart : Named → NodeName × (PlainNode × ℕ)
+abbrev pub apart : NamedNode → NodeName × (PlainNode × ℕ)
 apart n = (n.0, (n.1, n.2))
 
 -- a name and a value as a named node
-abbrev pub as_named : NodeName × (PlainNode × ℕ) → Named
+abbrev pub as_named : NodeName × (PlainNode × ℕ) → NamedNode
 as_named e = (e.0, e.1.0, e.1.1)
 
 -- nodes in the order of their names
-abbrev pub nodes_by_name : List Named → List Named
+abbrev pub nodes_by_name : List NamedNode → List NamedNode
 nodes_by_name ns = map as_named (by_name (map apart ns))
 
 -- the checkpoint of a standing

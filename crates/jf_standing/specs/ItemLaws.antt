@@ -12,7 +12,7 @@ use Rattle.jf_standing.specs.Taking.{TakesRecord, GivesStanding}
 use Rattle.jf_standing.specs.Next.{next_standing, IsReadRecord}
 use Rattle.jf_standing.specs.Landing.{fresh_leaves}
 use Rattle.jf_standing.specs.Begin.{begin, IsReadFirst}
-use Rattle.jf_standing.specs.Leading.{Item, AllLead, OneFailsAt, AreRead}
+use Rattle.jf_standing.specs.Leading.{LeadingItem, AllLead, OneFailsAt, AreRead}
 
 -- the result of a record for a sound standing is what the function `next_standing` says
 abbrev pub NextIsTakes : Type 0
@@ -33,20 +33,20 @@ SpelledIsRead = (fmt : Format) (kind : ℕ) (payload : List ℕ) (r : Record) �
 -- ---- records one after another
 -- records lead to a standing, or one of them is the first that isn't sound
 abbrev pub ItemsAreJudged : Type 0
-ItemsAreJudged = (fmt : Format) (x : Item) (xs : List Item) → AreRead x xs → ((s : Standing) × AllLead fmt x xs s) ⊎ ((at : ℕ) × OneFailsAt fmt x xs at)
+ItemsAreJudged = (fmt : Format) (x : LeadingItem) (xs : List LeadingItem) → AreRead x xs → ((s : Standing) × AllLead fmt x xs s) ⊎ ((at : ℕ) × OneFailsAt fmt x xs at)
 
 -- records that lead to a standing don't fail
 abbrev pub NeverBoth : Type 0
-NeverBoth = (fmt : Format) (x : Item) (xs : List Item) (s : Standing) (at : ℕ) → AreRead x xs → AllLead fmt x xs s → OneFailsAt fmt x xs at → ⊥
+NeverBoth = (fmt : Format) (x : LeadingItem) (xs : List LeadingItem) (s : Standing) (at : ℕ) → AreRead x xs → AllLead fmt x xs s → OneFailsAt fmt x xs at → ⊥
 
 -- records lead to at most one standing
 abbrev pub ItemsLeadToOne : Type 0
-ItemsLeadToOne = (fmt : Format) (x : Item) (xs : List Item) (s t : Standing) → AreRead x xs → AllLead fmt x xs s → AllLead fmt x xs t → s ≡ t
+ItemsLeadToOne = (fmt : Format) (x : LeadingItem) (xs : List LeadingItem) (s t : Standing) → AreRead x xs → AllLead fmt x xs s → AllLead fmt x xs t → s ≡ t
 
 -- the standing that records lead to is sound, and so are its versions
 abbrev pub ItemsLeadToSound : Type 0
-ItemsLeadToSound = (fmt : Format) (x : Item) (xs : List Item) (s : Standing) → AreRead x xs → AllLead fmt x xs s → IsSound fmt s × IsVersions (versions_of s)
+ItemsLeadToSound = (fmt : Format) (x : LeadingItem) (xs : List LeadingItem) (s : Standing) → AreRead x xs → AllLead fmt x xs s → IsSound fmt s × IsVersions (versions_of s)
 
 -- records fail at no more than one offset
 abbrev pub ItemsFailOnce : Type 0
-ItemsFailOnce = (fmt : Format) (x : Item) (xs : List Item) (at at' : ℕ) → AreRead x xs → OneFailsAt fmt x xs at → OneFailsAt fmt x xs at' → at ≡ at'
+ItemsFailOnce = (fmt : Format) (x : LeadingItem) (xs : List LeadingItem) (at at' : ℕ) → AreRead x xs → OneFailsAt fmt x xs at → OneFailsAt fmt x xs at' → at ≡ at'

@@ -10,7 +10,7 @@ use Rattle.jf_model.specs.Nodes.{Path, is_node, kept_nodes}
 use Rattle.jf_model.specs.Versions.{imported_versions, new_store}
 use Rattle.jf_codec.specs.declared.format.Format.{Format}
 use Rattle.jf_codec.specs.Spelling.{IsNode}
-use Rattle.jf_standing.specs.Named.{Named, version_at, map_at, not_stale, leaf_entries, AreEntries}
+use Rattle.jf_standing.specs.Named.{NamedNode, version_at, map_at, not_stale, leaf_entries, AreEntries}
 use Rattle.jf_standing.specs.Standing.{Standing, versions_of, with_nodes}
 use Rattle.jf_standing.specs.Sound.{IsSound}
 use Rattle.jf_standing.specs.Taking.{GivesStanding}
@@ -19,7 +19,7 @@ use Rattle.jf_standing.specs.Next.{IsReadStanding}
 
 -- what nodes represent does not depend on their order
 abbrev pub OrderIsFree : Type 0
-OrderIsFree = (fmt : Format) (s : Standing) (ns : List Named) → IsSound fmt s → IsPermutation s.nodes ns → IsSound fmt (with_nodes ns s) × (versions_of (with_nodes ns s) ≡ versions_of s)
+OrderIsFree = (fmt : Format) (s : Standing) (ns : List NamedNode) → IsSound fmt s → IsPermutation s.nodes ns → IsSound fmt (with_nodes ns s) × (versions_of (with_nodes ns s) ≡ versions_of s)
 
 -- the checkpoint of a sound standing gives the same nodes in the order of their names, and the same versions
 abbrev pub CheckpointsGive : Type 0
@@ -39,7 +39,7 @@ OneStanding =
     (fmt : Format) (s t : Standing) → IsSound fmt s → IsSound fmt t → t.floor ≡ s.floor → t.head ≡ s.head
     → ((w : ℕ) → s.floor ≤ w → w ≤ s.head → map_at w t.nodes ≡ map_at w s.nodes)
     → ((p : Path) → is_node 0 p (entries (map_at s.floor s.nodes)) ≡ true → version_at s.floor t.nodes p ≡ version_at s.floor s.nodes p)
-    → (n : Named) → Contains s.nodes n → Contains t.nodes n
+    → (n : NamedNode) → Contains s.nodes n → Contains t.nodes n
 
 -- maps landed in turn on a sound standing leave a sound standing
 abbrev pub BuiltIsSound : Type 0

@@ -6,7 +6,7 @@ use Rattle.jf_path.specs.Names.{name_cmp}
 use Rattle.jf_path.specs.declared.name.NodeName.{NodeName}
 use Rattle.jf_path.specs.declared.node.PlainNode.{PlainNode}
 use Rattle.jf_model.specs.Versions.{Versions}
-use Rattle.jf_standing.specs.Named.{Named, not_stale, map_at}
+use Rattle.jf_standing.specs.Named.{NamedNode, not_stale, map_at}
 use Rattle.jf_payload.specs.declared.records.Commit.{Commit}
 
 -- what records have made: base, floor and head, the roots from the head down to the base, and all named nodes
@@ -15,7 +15,7 @@ pub record Standing : Type 0 where
   pub floor : ℕ
   pub head : ℕ
   pub roots : List (List ℕ)
-  pub nodes : List Named
+  pub nodes : List NamedNode
 
 -- the n versions from w down
 abbrev pub down_from : ℕ → ℕ → List ℕ
@@ -27,7 +27,7 @@ abbrev pub versions_of : Standing → Versions
 versions_of s = record { base = s.base; floor = s.floor; head = s.head; roots = s.roots; maps = map (λ w. map_at w s.nodes) (down_from s.head (s.head - s.floor + 1)) }
 
 -- a standing with other nodes
-abbrev pub with_nodes : List Named → Standing → Standing
+abbrev pub with_nodes : List NamedNode → Standing → Standing
 with_nodes ns s = record { base = s.base; floor = s.floor; head = s.head; roots = s.roots; nodes = ns }
 
 -- ---- records
@@ -37,11 +37,11 @@ abbrev pub is_named : NodeName → List NodeName → Bool
 is_named name names = list_any (eq_by_cmp name_cmp name) names
 
 -- a node after a landing: stale since its version if the landing names it
-abbrev pub marked_node : Commit → Named → Named
+abbrev pub marked_node : Commit → NamedNode → NamedNode
 marked_node c n = if is_named n.0 c.stale then (n.0, n.1, c.version) else n
 
 -- a node as it is written: not stale
-abbrev pub unmarked_node : NodeName × PlainNode → Named
+abbrev pub unmarked_node : NodeName × PlainNode → NamedNode
 unmarked_node x = (x.0, x.1, not_stale)
 
 -- a landing marks the nodes that it names, and adds its own nodes and its root

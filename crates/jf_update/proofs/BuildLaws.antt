@@ -23,7 +23,7 @@ use Rattle.jf_node.specs.LinkFacts.{BeginAlike}
 use Rattle.jf_node.proofs.NodeVersions.{version-below}
 use Rattle.jf_node.proofs.ChildLaws.{FitFrom-set}
 use Rattle.jf_diff.specs.OptionalNodes.{IsAtDepth}
-use Rattle.jf_update.specs.Made.{Built, Topped, AreBuilt}
+use Rattle.jf_update.specs.Made.{IsBuilt, IsTopOver, AreBuilt}
 use Rattle.jf_update.specs.Outcomes.{AreParts, AreShort}
 
 -- ---- unions
@@ -48,24 +48,24 @@ pub part_agrees : {d : ℕ} {path : ℕ → ℕ} (es : Part) → IsPartUnder d p
 part_agrees {path = path} es part = record { path = path; keys = part.agree }
 
 -- ---- one node
-pub built_none : (depth version : ℕ) → Built depth version [] None
+pub built_none : (depth version : ℕ) → IsBuilt depth version [] None
 built_none depth version = record { entries = refl; placed = tt; versions = λ p some. absurd (some (sub-none depth p)) }
 
-pub built_leaf : (depth version : ℕ) (k v : List ℕ) (y : LinkValue) → y ≡ leaf_value version depth k v → Built depth version ((k, v) ∷ []) (Some y)
+pub built_leaf : (depth version : ℕ) (k v : List ℕ) (y : LinkValue) → y ≡ leaf_value version depth k v → IsBuilt depth version ((k, v) ∷ []) (Some y)
 built_leaf depth version k v y is =
-    subst (λ z. Built depth version ((k, v) ∷ []) (Some z)) (sym is) record { entries = refl; placed = refl; versions = built_one depth version ((k, v) ∷ []) (λ p. link_version_at p (Some (leaf_value version depth k v))) (omega arith) refl }
+    subst (λ z. IsBuilt depth version ((k, v) ∷ []) (Some z)) (sym is) record { entries = refl; placed = refl; versions = built_one depth version ((k, v) ∷ []) (λ p. link_version_at p (Some (leaf_value version depth k v))) (omega arith) refl }
 
-pub topped_inner : (depth version : ℕ) (links : List (Option LinkValue)) (y : LinkValue) → y ≡ inner_value version depth links → Topped depth version links (Some y)
+pub topped_inner : (depth version : ℕ) (links : List (Option LinkValue)) (y : LinkValue) → y ≡ inner_value version depth links → IsTopOver depth version links (Some y)
 topped_inner depth version links y is =
-    subst (λ z. Topped depth version links (Some z)) (sym is) record { entries = refl; placed = refl; versions = record { top = λ some. refl; children = λ n p many. version-below n p version links } }
+    subst (λ z. IsTopOver depth version links (Some z)) (sym is) record { entries = refl; placed = refl; versions = record { top = λ some. refl; children = λ n p many. version-below n p version links } }
 
-pub topped_none : (depth version : ℕ) (links : List (Option LinkValue)) → entries_of_children links ≡ [] → Topped depth version links None
+pub topped_none : (depth version : ℕ) (links : List (Option LinkValue)) → entries_of_children links ≡ [] → IsTopOver depth version links None
 topped_none depth version links none = record { entries = sym none; placed = tt; versions = record { top = λ some. absurd (some none); children = λ n p many. absurd (let e = ap length none in omega arith) } }
 
-pub topped_moved : (depth version : ℕ) (links : List (Option LinkValue)) (x y : LinkValue) (rest : Part) → entries_of_children links ≡ x.entries ++ rest → length (entries_of_children links) < 2 → 1 ≤ length x.entries → y ≡ moved_value version depth x → Topped depth version links (Some y)
+pub topped_moved : (depth version : ℕ) (links : List (Option LinkValue)) (x y : LinkValue) (rest : Part) → entries_of_children links ≡ x.entries ++ rest → length (entries_of_children links) < 2 → 1 ≤ length x.entries → y ≡ moved_value version depth x → IsTopOver depth version links (Some y)
 topped_moved depth version links x y rest is few some moved =
     let no_rest : rest ≡ [] = nil_from_length rest (let e = ap length is in omega (arith, length-append x.entries rest)) in
-    subst (λ z. Topped depth version links (Some z)) (sym moved) record {
+    subst (λ z. IsTopOver depth version links (Some z)) (sym moved) record {
       entries = sym (append-nil x.entries) ∙ ap (λ r. x.entries ++ r) (sym no_rest) ∙ sym is;
       placed = refl;
       versions = record { top = λ some. refl; children = λ n p many. absurd (omega arith) };
@@ -99,7 +99,7 @@ end_in_rest d n r start xs h = subst (IsPieceEnd d n r) (same_rest start xs) h
 pub record IsBuilding (depth version n start : ℕ) (es : Part) (bs : Batch) (links : List (Option LinkValue)) : Type 0 where
   pub long : length links ≡ 16
   pub fit : FitFrom depth 0 links
-  pub each : (k : ℕ) → k < n → Built (depth + 1) version (with_nibble depth k es) (get_or links k None)
+  pub each : (k : ℕ) → k < n → IsBuilt (depth + 1) version (with_nibble depth k es) (get_or links k None)
   pub within : start ≤ length bs
   pub rest : drop start bs ≡ from_nibble depth n bs
 
@@ -113,7 +113,7 @@ drop_more (suc a) b [] = drop_none b ∙ sym (drop_none (suc a + b))
 drop_more (suc a) b (x ∷ xs) = drop_more a b xs ∙ ap (λ k. drop k (x ∷ xs)) (let e : suc (a + b) ≡ suc a + b = omega arith in e)
 
 pub building_more : (d v n start r : ℕ) (path : ℕ → ℕ) (es : Part) (bs : Batch) (links : List (Option LinkValue)) (child : Option LinkValue) → IsPartUnder d path bs → n < 16 → IsBuilding d v n start es bs links → IsPieceEnd d n r (drop start bs)
-    → Built (d + 1) v (with_nibble d n es) child → IsBuilding d v (n + 1) (start + r) es bs (set links n child)
+    → IsBuilt (d + 1) v (with_nibble d n es) child → IsBuilding d v (n + 1) (start + r) es bs (set links n child)
 building_more d v n start r path es bs links child part small b end made =
     let both = cut_piece d n r path bs (drop start bs) part b.rest end in
     let in_links : n < length links = omega (arith, b.long) in
@@ -121,7 +121,7 @@ building_more d v n start r path es bs links child part small b end made =
       long = length-set links n child ∙ b.long;
       fit = FitFrom-set d 0 n links child b.fit (subst (λ k. FitsAt d k child) (sym (zero-add n)) (fits_part d n es child made.entries made.placed));
       each = λ k lt. let le : k ≤ n = omega arith in elim (eq-or-lt_of_le le) [
-        | inl here ↦ subst (λ m. Built (d + 1) v (with_nibble d m es) (get_or (set links n child) m None)) (sym here) (rw get_or-set_same made)
+        | inl here ↦ subst (λ m. IsBuilt (d + 1) v (with_nibble d m es) (get_or (set links n child) m None)) (sym here) (rw get_or-set_same made)
         | inr before ↦ let ne : k ≢ n = omega arith in rw get_or-set_other (b.each k before)
       ];
       within = omega (arith, b.within, end.within, length-drop start bs);
@@ -155,15 +155,15 @@ pub few_at : (d n : ℕ) (es own : Part) → length es < 2 → own ≡ with_nibb
 few_at d n es own few is = omega (arith, ap length is, length-filter_le (λ (e : List ℕ × List ℕ). nibble e.0 d == n) es)
 
 -- ---- one entry, or none
-pub built_kept : (depth version : ℕ) (es : Part) (x y : LinkValue) → es ≡ x.entries → length x.entries ≡ 1 → y ≡ moved_value version depth x → Built depth version es (Some y)
+pub built_kept : (depth version : ℕ) (es : Part) (x y : LinkValue) → es ≡ x.entries → length x.entries ≡ 1 → y ≡ moved_value version depth x → IsBuilt depth version es (Some y)
 built_kept depth version es x y is one moved =
-    subst (λ z. Built depth version es (Some z)) (sym moved) record { entries = sym is; placed = refl; versions = built_one depth version es (λ p. link_version_at p (Some (moved_value version depth x))) (omega (arith, ap length is)) refl }
+    subst (λ z. IsBuilt depth version es (Some z)) (sym moved) record { entries = sym is; placed = refl; versions = built_one depth version es (λ p. link_version_at p (Some (moved_value version depth x))) (omega (arith, ap length is)) refl }
 
-pub built_put : (depth version : ℕ) (es : Part) (k v : List ℕ) (y : LinkValue) → es ≡ (k, v) ∷ [] → y ≡ leaf_value version depth k v → Built depth version es (Some y)
-built_put depth version es k v y is at = subst (λ fs. Built depth version fs (Some y)) (sym is) (built_leaf depth version k v y at)
+pub built_put : (depth version : ℕ) (es : Part) (k v : List ℕ) (y : LinkValue) → es ≡ (k, v) ∷ [] → y ≡ leaf_value version depth k v → IsBuilt depth version es (Some y)
+built_put depth version es k v y is at = subst (λ fs. IsBuilt depth version fs (Some y)) (sym is) (built_leaf depth version k v y at)
 
-pub built_nothing : (depth version : ℕ) (es : Part) → es ≡ [] → Built depth version es None
-built_nothing depth version es is = subst (λ fs. Built depth version fs None) (sym is) (built_none depth version)
+pub built_nothing : (depth version : ℕ) (es : Part) → es ≡ [] → IsBuilt depth version es None
+built_nothing depth version es is = subst (λ fs. IsBuilt depth version fs None) (sym is) (built_none depth version)
 
 fit_none : (d n k : ℕ) → FitFrom d n (replicate k None)
 fit_none d n zero = tt
@@ -173,7 +173,7 @@ pub building_start : (d v : ℕ) (es : Part) (bs : Batch) (links : List (Option 
 building_start d v es bs links is = subst (IsBuilding d v 0 0 es bs) (sym is) record { long = refl; fit = fit_none d 0 16; each = λ k lt. absurd (omega arith); within = omega arith; rest = sym (from_nibble-zero d bs) }
 
 -- a new node over new children
-pub built_inner : (depth version : ℕ) (path : ℕ → ℕ) (es : Part) (y : LinkValue) (links : List (Option LinkValue)) → 2 ≤ length es → IsPartUnder depth path es → AreBuilt depth version es links → y ≡ inner_value version depth links → Built depth version es (Some y)
+pub built_inner : (depth version : ℕ) (path : ℕ → ℕ) (es : Part) (y : LinkValue) (links : List (Option LinkValue)) → 2 ≤ length es → IsPartUnder depth path es → AreBuilt depth version es links → y ≡ inner_value version depth links → IsBuilt depth version es (Some y)
 built_inner depth version path es y links many part made is =
     let all = joined_built depth version path es links part made in
     let t = topped_inner depth version links y is in

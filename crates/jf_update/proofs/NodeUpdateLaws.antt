@@ -24,7 +24,7 @@ use Rattle.jf_node.proofs.ChildLaws.{FitFrom-set}
 use Rattle.jf_node.proofs.NodeVersions.{version-below}
 use Rattle.jf_diff.specs.OptionalNodes.{IsAtDepth}
 use Rattle.jf_diff.proofs.ChildPlaces.{child_part, child_placed, fits}
-use Rattle.jf_update.specs.Made.{Topped}
+use Rattle.jf_update.specs.Made.{IsTopOver}
 use Rattle.jf_update.specs.Outcomes.{IsNodeUpdate, AreNewChildren, IsOutcome, IsOutcomePlaced, IsLeafOutcome, AreParts, AreShort, AreOutcome}
 use Rattle.jf_update.specs.declared.outcome.NewChildren.{NewChildren}
 use Rattle.jf_update.specs.declared.outcome.Outcome.{Outcome}
@@ -181,7 +181,7 @@ updating_more d v n start r path olds now next (New y) bs piece long fit part ba
 
 -- ---- a node over its updated children
 pub worked_top : (d v : ℕ) (path : ℕ → ℕ) (x : LinkValue) (y : Option LinkValue) (olds news : List (Option LinkValue)) (bs : Batch) (changed : List Bool) → x.depth ≡ d → ShowsInner x olds
-    → IsPartUnder d path x.entries → IsPartUnder d path bs → AreNewChildren d v olds bs news changed → ¬ (entries_after_batch (entries_of_children olds) bs ≡ entries_of_children olds) → Topped d v news y → IsOutcome d v (Some x) bs (New y)
+    → IsPartUnder d path x.entries → IsPartUnder d path bs → AreNewChildren d v olds bs news changed → ¬ (entries_after_batch (entries_of_children olds) bs ≡ entries_of_children olds) → IsTopOver d v news y → IsOutcome d v (Some x) bs (New y)
 worked_top d v path x y olds news bs changed at shows part batch w differ t =
     let is = shows.entries in
     let long = shows.children.long in
@@ -252,12 +252,12 @@ pub depth_of : (d : ℕ) (old : Option LinkValue) (x : LinkValue) → old ≡ So
 depth_of d old x is placed = subst (IsAtDepth d) is placed
 
 pub inner_outcome : (d v : ℕ) (old : Option LinkValue) (x : LinkValue) (y : Option LinkValue) (olds : List (Option LinkValue)) (w : NewChildren) (bs : Batch) → old ≡ Some x → IsAtDepth d old → ShowsInner x olds
-    → AreParts d (content old) bs → AreOutcome d v olds bs (Some w) → Topped x.depth v w.children y → IsOutcome d v old bs (New y)
+    → AreParts d (content old) bs → AreOutcome d v olds bs (Some w) → IsTopOver x.depth v w.children y → IsOutcome d v old bs (New y)
 inner_outcome d v old x y olds w bs is placed shows parts out top =
     let at : x.depth ≡ d = depth_of d old x is placed in
     let parts' : AreParts d x.entries bs = subst (λ o. AreParts d (content o) bs) is parts in
     subst (λ o. IsOutcome d v o bs (New y)) (sym is)
-    (worked_top d v parts'.path x y olds w.children bs w.changed at shows parts'.entries parts'.batch out.0 out.1 (subst (λ k. Topped k v w.children y) at top))
+    (worked_top d v parts'.path x y olds w.children bs w.changed at shows parts'.entries parts'.batch out.0 out.1 (subst (λ k. IsTopOver k v w.children y) at top))
 
 pub inner_kept : (d v : ℕ) (old : Option LinkValue) (x : LinkValue) (olds : List (Option LinkValue)) (w : NewChildren) (bs : Batch) → old ≡ Some x → IsAtDepth d old → ShowsInner x olds
     → AreOutcome d v olds bs (Some w) → SameElsewhere w.changed x.depth x.entries (entries_of_children w.children)

@@ -11,7 +11,7 @@ use Rattle.jf_walk.proofs.PartChanges.{with_nibble-applied}
 use Rattle.jf_node.specs.LinkValue.{LinkValue}
 use Rattle.jf_node.specs.Children.{FitFrom, FitsAt}
 use Rattle.jf_node.proofs.ChildLaws.{FitFrom-set}
-use Rattle.jf_update.specs.Made.{Built, AreBuilt}
+use Rattle.jf_update.specs.Made.{IsBuilt, AreBuilt}
 use Rattle.jf_split.specs.Pieces.{ArePieces}
 use Rattle.jf_update.specs.Wide.{IsPieceOf, IsPieceBuilt}
 use Rattle.jf_update.proofs.PieceCuts.{same_or_not, pieces_whole}
@@ -22,7 +22,7 @@ use Rattle.jf_update.proofs.WideLaws.{place_in}
 
 -- the child at nibble k is built from these entries
 abbrev IsBuiltAt : ℕ → ℕ → Part → List (Option LinkValue) → ℕ → Type 0
-IsBuiltAt d v es links k = Built (d + 1) v (with_nibble d k es) (get_or links k None)
+IsBuiltAt d v es links k = IsBuilt (d + 1) v (with_nibble d k es) (get_or links k None)
 
 -- what was built for the first n pieces is in place; es are the entries before the changes, and now those after them
 pub record IsFilling (d v n : ℕ) (es now : Part) (ps : List Piece) (links : List (Option LinkValue)) : Type 0 where
@@ -32,8 +32,8 @@ pub record IsFilling (d v n : ℕ) (es now : Part) (ps : List Piece) (links : Li
   pub done : (i : ℕ) (p : Piece) → i < n → IsBuiltAt d v now links (get_or ps i p).nibble
 
 -- what is built of the changes of a piece, over the entries with its nibble
-pub built_piece : (d v : ℕ) (es own : Part) (bs : Batch) (p : Piece) (y : Option LinkValue) → T (is_sorted key_cmp es) → IsPieceOf d bs p → own ≡ with_nibble d p.nibble es → Built (d + 1) v (entries_after_batch own (take (p.end - p.start) (drop p.start bs))) y → IsPieceBuilt d v (entries_after_batch es bs) p y
-built_piece d v es own bs p y sorted piece is made = record { small = piece.small; built = subst (λ fs. Built (d + 1) v fs y) (ap₂ entries_after_batch is piece.exact ∙ sym (with_nibble-applied d p.nibble es bs sorted)) made }
+pub built_piece : (d v : ℕ) (es own : Part) (bs : Batch) (p : Piece) (y : Option LinkValue) → T (is_sorted key_cmp es) → IsPieceOf d bs p → own ≡ with_nibble d p.nibble es → IsBuilt (d + 1) v (entries_after_batch own (take (p.end - p.start) (drop p.start bs))) y → IsPieceBuilt d v (entries_after_batch es bs) p y
+built_piece d v es own bs p y sorted piece is made = record { small = piece.small; built = subst (λ fs. IsBuilt (d + 1) v fs y) (ap₂ entries_after_batch is piece.exact ∙ sym (with_nibble-applied d p.nibble es bs sorted)) made }
 
 pub filling_start : (d v : ℕ) (es now : Part) (ps : List Piece) (links : List (Option LinkValue)) → AreBuilt d v (entries_after_batch es []) links → IsFilling d v 0 es now ps links
 filling_start d v es now ps links made = record {
@@ -50,9 +50,9 @@ filling_more d v n es now ps p y links more h lt at out is =
     let small = out.small in
     let in_links : m < length links = omega (arith, h.long, small) in
     let found : get_or more m None ≡ y = ap (λ ls. get_or ls m None) is ∙ get_or-set_same links m y None in_links in
-    let here : IsBuiltAt d v now more m = subst (λ z. Built (d + 1) v (with_nibble d m now) z) (sym found) out.built in
+    let here : IsBuiltAt d v now more m = subst (λ z. IsBuilt (d + 1) v (with_nibble d m now) z) (sym found) out.built in
     let there : (k : ℕ) → ¬ (k ≡ m) → get_or more k None ≡ get_or links k None = λ k other. ap (λ ls. get_or ls k None) is ∙ get_or-set_other links m k y None other in
-    let moved : (fs : Part) (k : ℕ) → ¬ (k ≡ m) → IsBuiltAt d v fs links k → IsBuiltAt d v fs more k = λ fs k other. subst (λ z. Built (d + 1) v (with_nibble d k fs) z) (sym (there k other)) in
+    let moved : (fs : Part) (k : ℕ) → ¬ (k ≡ m) → IsBuiltAt d v fs links k → IsBuiltAt d v fs more k = λ fs k other. subst (λ z. IsBuilt (d + 1) v (with_nibble d k fs) z) (sym (there k other)) in
     record {
       long = ap length is ∙ length-set links m y ∙ h.long;
       fit = subst (FitFrom d 0) (sym is) (FitFrom-set d 0 m links y h.fit (subst (λ k. FitsAt d k y) (sym (zero-add m)) (fits_part d m now y out.built.entries out.built.placed)));
@@ -79,6 +79,6 @@ filling_done d v es bs ps links sorted pieces h = record { long = h.long; fit = 
       | inr none ↦ elim (h.each k lt) [
         | inl new ↦ new
         | inr old ↦
-            subst (λ fs. Built (d + 1) v fs (get_or links k None)) (sym (with_nibble-applied d k es bs sorted ∙ empty_applied (with_nibble d k es) (with_nibble d k bs) (ap length none))) old
+            subst (λ fs. IsBuilt (d + 1) v fs (get_or links k None)) (sym (with_nibble-applied d k es bs sorted ∙ empty_applied (with_nibble d k es) (with_nibble d k bs) (ap length none))) old
       ]
     ]

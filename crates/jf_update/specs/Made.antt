@@ -7,13 +7,13 @@ use Rattle.jf_node.specs.Children.{content, entries_of_children, FitFrom}
 use Rattle.jf_diff.specs.OptionalNodes.{IsAtDepth}
 
 -- y is built new from the entries es: all its nodes have the new version
-pub record Built (depth version : ℕ) (es : Part) (y : Option LinkValue) : Type 0 where
+pub record IsBuilt (depth version : ℕ) (es : Part) (y : Option LinkValue) : Type 0 where
   pub entries : content y ≡ es
   pub placed : IsAtDepth depth y
   pub versions : AllNew depth version es (λ p. link_version_at p y)
 
 -- y is the top over these children: no node, a leaf moved up, or a new inner node
-pub record Topped (depth version : ℕ) (links : List (Option LinkValue)) (y : Option LinkValue) : Type 0 where
+pub record IsTopOver (depth version : ℕ) (links : List (Option LinkValue)) (y : Option LinkValue) : Type 0 where
   pub entries : content y ≡ entries_of_children links
   pub placed : IsAtDepth depth y
   pub versions : IsNewTop version (entries_of_children links) (λ n p. link_version_at p (slice_index_or links n None)) (λ p. link_version_at p y)
@@ -22,4 +22,4 @@ pub record Topped (depth version : ℕ) (links : List (Option LinkValue)) (y : O
 pub record AreBuilt (depth version : ℕ) (es : Part) (links : List (Option LinkValue)) : Type 0 where
   pub long : length links ≡ 16
   pub fit : FitFrom depth 0 links
-  pub each : (n : ℕ) → n < 16 → Built (depth + 1) version (with_nibble depth n es) (slice_index_or links n None)
+  pub each : (n : ℕ) → n < 16 → IsBuilt (depth + 1) version (with_nibble depth n es) (slice_index_or links n None)

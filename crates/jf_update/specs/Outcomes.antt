@@ -10,7 +10,7 @@ use Rattle.jf_model.specs.NodeVersions.{VersionsFollow}
 use Rattle.jf_node.specs.LinkValue.{LinkValue, link_version_at}
 use Rattle.jf_node.specs.Children.{content, FitFrom, entries_of_children}
 use Rattle.jf_diff.specs.OptionalNodes.{IsAtDepth}
-use Rattle.jf_update.specs.Made.{Built}
+use Rattle.jf_update.specs.Made.{IsBuilt}
 use Rattle.jf_update.specs.declared.outcome.Outcome.{Outcome}
 use Rattle.jf_update.specs.declared.outcome.Outcome.TheVariants.{Same, New}
 use Rattle.jf_update.specs.declared.outcome.NewChildren.{NewChildren}
@@ -40,7 +40,7 @@ IsOutcome depth version x bs (New y) = IsNodeUpdate depth version x bs y × ¬ (
 -- the outcome of a batch over at most one entry: unchanged, or all nodes new
 abbrev pub IsLeafOutcome : ℕ → ℕ → Part → Batch → Outcome → Type 0
 IsLeafOutcome depth version es bs Same = entries_after_batch es bs ≡ es
-IsLeafOutcome depth version es bs (New y) = Built depth version (entries_after_batch es bs) y × ¬ (entries_after_batch es bs ≡ es)
+IsLeafOutcome depth version es bs (New y) = IsBuilt depth version (entries_after_batch es bs) y × ¬ (entries_after_batch es bs ≡ es)
 
 -- the children after a batch; those that didn't change have the same entries as before
 pub record AreNewChildren (depth version : ℕ) (olds : List (Option LinkValue)) (bs : Batch) (news : List (Option LinkValue)) (changed : List Bool) : Type 0 where

@@ -4,7 +4,7 @@ use Rattle.jf_hash.specs.Maps.{Batch}
 use Rattle.jf_hash.specs.Slots.{Part, with_nibble}
 use Rattle.jf_split.specs.declared.piece.Piece.{Piece}
 use Rattle.jf_node.specs.LinkValue.{LinkValue}
-use Rattle.jf_update.specs.Made.{Built}
+use Rattle.jf_update.specs.Made.{IsBuilt}
 use Rattle.jf_update.specs.Outcomes.{IsOutcome}
 use Rattle.jf_update.specs.declared.outcome.Outcome.{Outcome}
 
@@ -27,4 +27,4 @@ pub record IsPieceOutcome (depth version : ℕ) (olds : List (Option LinkValue))
 -- what is built for a piece has, of the entries es after all changes, those with its nibble
 pub record IsPieceBuilt (depth version : ℕ) (es : Part) (p : Piece) (y : Option LinkValue) : Type 0 where
   pub small : p.nibble < 16
-  pub built : Built (depth + 1) version (with_nibble depth p.nibble es) y
+  pub built : IsBuilt (depth + 1) version (with_nibble depth p.nibble es) y

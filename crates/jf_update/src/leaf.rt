@@ -5,7 +5,7 @@ ghost use Rattle.std.specs.Option.{option_copied};
 ghost use Rattle.jf_hash.specs.Slots.{with_nibble};
 ghost use Rattle.jf_model.specs.Changes.{entries_after_batch};
 ghost use Rattle.jf_node.specs.Children.{content};
-ghost use Rattle.jf_update.specs.Made.{Built, AreBuilt};
+ghost use Rattle.jf_update.specs.Made.{IsBuilt, AreBuilt};
 ghost use Rattle.jf_update.specs.Outcomes.{AreParts, IsLeafOutcome};
 ghost use Rattle.jf_update.specs.ValueHashes.{AreValueHashes};
 
@@ -52,7 +52,7 @@ pub(crate) fn build(
     requires lone { length (content (option_copied own)) < 2 }
     requires parts { AreParts depth (content (option_copied own)) entries.now }
     requires hashed { AreValueHashes entries.now hashes.now }
-    ensures { IfOk result (λ y. Built depth version (entries_after_batch (content (option_copied own.entry)) entries.now) y) }
+    ensures { IfOk result (λ y. IsBuilt depth version (entries_after_batch (content (option_copied own.entry)) entries.now) y) }
 {
     match remainder_of(own, entries, hashes, depth) {
         Remainder::Nothing => Ok(None),

@@ -6,7 +6,7 @@ ghost use Rattle.jf_hash.specs.Slots.{Part};
 ghost use Rattle.jf_node.specs.Children.{content, entries_of_children, FitFrom, SameElsewhere};
 ghost use Rattle.jf_model.specs.Parts.{IsPartUnder};
 ghost use Rattle.jf_diff.specs.OptionalNodes.{IsAtDepth};
-ghost use Rattle.jf_update.specs.Made.{Topped};
+ghost use Rattle.jf_update.specs.Made.{IsTopOver};
 ghost use Rattle.jf_update.specs.Outcomes.{AreParts, IsOutcome, AreOutcome, IsOutcomePlaced};
 ghost use Rattle.jf_update.specs.ValueHashes.{AreValueHashes};
 
@@ -43,7 +43,7 @@ pub(crate) fn rebuild(
     requires children { FitFrom old.now.depth 0 made.children }
     requires part { (path : ℕ → ℕ) × IsPartUnder old.now.depth path (entries_of_children made.children) }
     requires kept { SameElsewhere made.changed old.now.depth old.now.entries (entries_of_children made.children) }
-    ensures { IfOk result (λ y. Topped old.now.depth version made.children y) }
+    ensures { IfOk result (λ y. IsTopOver old.now.depth version made.children y) }
 {
     let NewChildren { children, changed } = made;
     if children.has_several() {

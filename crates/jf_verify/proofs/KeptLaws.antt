@@ -13,7 +13,7 @@ use Rattle.jf_text.specs.Words.{line_text}
 use Rattle.jf_blocks.proofs.SideLaws.{kept_sides-deep, kept_sides-shallow}
 use Rattle.jf_verify.specs.declared.accepted.Accepted.{Accepted}
 use Rattle.jf_verify.specs.Verdicts.{contradicts, contradicted_claim, judgement_under, contradiction_text, refused_text}
-use Rattle.jf_verify.specs.Kept.{Subject, subject_of, claim_on, table_with_claim, Kept, nothing_kept, list_of_claim, claims_on, is_first_to_differ, with_claim, judged_by}
+use Rattle.jf_verify.specs.Kept.{Subject, subject_of, claim_on, table_with_claim, ClaimsBySubject, nothing_kept, list_of_claim, claims_on, is_first_to_differ, with_claim, judged_by}
 use Rattle.jf_verify.proofs.Finding.{find-same, find-first, find-stays, find-alike, Passes, found-passes, find-none, find-hit}
 use Rattle.jf_verify.proofs.Subjects.{is_on, on-subject, claim_on-entered}
 use Rattle.jf_verify.proofs.Contradictions.{contradicts-on, apart, contradicts-self, contradicts-swap, alike}
@@ -24,7 +24,7 @@ differing None claims = None
 differing (Some f) claims = find (contradicts f) claims
 
 -- of all these claims, the first on each subject is kept, and the first that differs from it
-pub record Keeps (k : Kept) (claims : List Accepted) : Type 0 where
+pub record Keeps (k : ClaimsBySubject) (claims : List Accepted) : Type 0 where
   pub firsts : (s : Subject) → claim_on k.firsts s ≡ find (is_on s) claims
   pub others : (s : Subject) → claim_on k.others s ≡ differing (find (is_on s) claims) claims
 
@@ -49,7 +49,7 @@ of_two a claims None is passes = sym (find-none (contradicts a) (is_on (subject_
 of_two a claims (Some f) is passes = first_contradicts a f claims is passes (contradicts a f) refl
 
 -- the first claim of all that contradicts this one is one of the two that are kept on its subject
-pub contradicted-kept : (a : Accepted) (k : Kept) (claims : List Accepted) → Keeps k claims → contradicted_claim a (claims_on k (subject_of a)) ≡ contradicted_claim a claims
+pub contradicted-kept : (a : Accepted) (k : ClaimsBySubject) (claims : List Accepted) → Keeps k claims → contradicted_claim a (claims_on k (subject_of a)) ≡ contradicted_claim a claims
 contradicted-kept a k claims keeps =
     let s = subject_of a in
     ap (λ o. contradicted_claim a (list_of_claim o ++ list_of_claim (claim_on k.others s))) (keeps.firsts s)
@@ -67,7 +67,7 @@ elsewhere : (s : Subject) (a : Accepted) (claims : List Accepted) → is_on s a 
 elsewhere s a claims off =
     ap (λ o. differing o (claims ++ a ∷ [])) (find-same (is_on s) claims a off) ∙ differing_elsewhere s a claims off (find (is_on s) claims) (found-passes (is_on s) claims)
 
-module _ (k : Kept) (claims : List Accepted) (keeps : Keeps k claims) (a : Accepted) where
+module _ (k : ClaimsBySubject) (claims : List Accepted) (keeps : Keeps k claims) (a : Accepted) where
   abbrev more : List Accepted
   more = claims ++ a ∷ []
 
@@ -146,7 +146,7 @@ module _ (k : Kept) (claims : List Accepted) (keeps : Keeps k claims) (a : Accep
   by_difference f is false e = as_neither f is e
 
   by_first : (o : Option Accepted) → claim_on k.firsts own ≡ o
-      → Keeps (elim o as (λ x. Kept) [ None ↦ record { firsts = table_with_claim k.firsts a; others = k.others } | Some first ↦ cond (is_first_to_differ k a first) (record { firsts = k.firsts; others = table_with_claim k.others a }) k ]) more
+      → Keeps (elim o as (λ x. ClaimsBySubject) [ None ↦ record { firsts = table_with_claim k.firsts a; others = k.others } | Some first ↦ cond (is_first_to_differ k a first) (record { firsts = k.firsts; others = table_with_claim k.others a }) k ]) more
   by_first None is = as_first (sym (keeps.firsts own) ∙ is)
   by_first (Some f) is = by_difference f (sym (keeps.firsts own) ∙ is) (is_first_to_differ k a f) refl
 
@@ -155,15 +155,15 @@ module _ (k : Kept) (claims : List Accepted) (keeps : Keeps k claims) (a : Accep
 
 -- ---- all claims
 -- what is kept after claims one after another
-unfoldable pub kept_from : Kept → List Accepted → Kept
+unfoldable pub kept_from : ClaimsBySubject → List Accepted → ClaimsBySubject
 kept_from k [] = k
 kept_from k (a ∷ claims) = kept_from (with_claim k a) claims
 
 -- what is kept of claims
-abbrev pub kept_claims : List Accepted → Kept
+abbrev pub kept_claims : List Accepted → ClaimsBySubject
 kept_claims claims = kept_from nothing_kept claims
 
-keeps_from : (k : Kept) (before claims : List Accepted) → Keeps k before → Keeps (kept_from k claims) (before ++ claims)
+keeps_from : (k : ClaimsBySubject) (before claims : List Accepted) → Keeps k before → Keeps (kept_from k claims) (before ++ claims)
 unfolding kept_from
 keeps_from k before [] keeps = subst (Keeps k) (sym (append-nil before)) keeps
 keeps_from k before (a ∷ claims) keeps =
@@ -173,7 +173,7 @@ keeps_from k before (a ∷ claims) keeps =
 pub keeps-kept_claims : (claims : List Accepted) → Keeps (kept_claims claims) claims
 keeps-kept_claims claims = keeps_from nothing_kept [] claims keeps_nothing
 
-pub kept_from-more : (k : Kept) (claims : List Accepted) (a : Accepted) → kept_from k (claims ++ a ∷ []) ≡ with_claim (kept_from k claims) a
+pub kept_from-more : (k : ClaimsBySubject) (claims : List Accepted) (a : Accepted) → kept_from k (claims ++ a ∷ []) ≡ with_claim (kept_from k claims) a
 unfolding kept_from
 kept_from-more k [] a = refl
 kept_from-more k (b ∷ claims) a = kept_from-more (with_claim k b) claims a
@@ -184,7 +184,7 @@ abbrev accepted_text : List ℕ
 accepted_text = line_text (codes "accepted" ∷ [])
 
 -- a verdict and what is kept after it, of a verdict and all accepted claims after it
-abbrev pub with_kept_claims : List ℕ × List Accepted → List ℕ × Kept
+abbrev pub with_kept_claims : List ℕ × List Accepted → List ℕ × ClaimsBySubject
 with_kept_claims p = (p.0, kept_claims p.1)
 
 -- a claim with the siblings that are kept
@@ -193,7 +193,7 @@ with_kept_sides j = record { key = j.key; claim = j.claim; proof = record { leaf
 
 judged_kept : (root : List ℕ) (claims : List Accepted) (j : Judged) (o : Option ProofFault)
     → (let a : Accepted = record { root = root; judged = j } in
-    elim o as (λ x. List ℕ × Kept) [
+    elim o as (λ x. List ℕ × ClaimsBySubject) [
       | Some why ↦ (refused_text why, kept_claims claims)
       | None ↦ (accepted_text ++ contradiction_text a (contradicted_claim a (claims_on (kept_claims claims) (subject_of a))), with_claim (kept_claims claims) a)
     ])

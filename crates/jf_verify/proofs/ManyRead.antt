@@ -4,7 +4,7 @@ use Rattle.std.proofs.lemmas.List.{append-nil}
 use Rattle.jf_hash.specs.Hashes.{K}
 use Rattle.jf_multi.specs.Verdicts.{ClaimList}
 use Rattle.jf_multi.specs.declared.item.Item.{Item}
-use Rattle.jf_blocks.specs.Reading.{Place, Read, and_then, line_by, gives, lines_by}
+use Rattle.jf_blocks.specs.Reading.{LinePlace, ReadResult, and_then, line_by, gives, lines_by}
 use Rattle.jf_many_blocks.specs.ManyBlocks.{NamedClaim, on_keys}
 use Rattle.jf_many_blocks.specs.ManyReading.{named_claim_of, item_of, ManyBlock, many_body}
 use Rattle.jf_many_blocks.specs.declared.head.ManyHead.{ManyHead}
@@ -15,7 +15,7 @@ use Rattle.jf_verify.specs.declared.stage.Stage.TheVariants as stage
 use Rattle.jf_verify.proofs.LineRead.{knowledge_of, goes, goes_from, IsPlaceAfter, by_line, lines_by-after, some_left}
 
 -- the text of such a block that was read or not, and then of the lines after it
-abbrev pub answered_many : List ℕ → Judging → Place → Read ManyBlock → List ℕ
+abbrev pub answered_many : List ℕ → Judging → LinePlace → ReadResult ManyBlock → List ℕ
 answered_many root j p r = goes_from (say_many root j p r)
 
 -- one claim more, on its name's key
@@ -23,7 +23,7 @@ on_keys-push : (cs : List NamedClaim) (c : NamedClaim) → on_keys (cs ++ c ∷ 
 on_keys-push [] c = refl
 on_keys-push (x ∷ cs) c = ap (λ (t : ClaimList). (K x.0, x.1) ∷ t) (on_keys-push cs c)
 
-module _ (root : List ℕ) (j : Judging) (p : Place) where
+module _ (root : List ℕ) (j : Judging) (p : LinePlace) where
   -- with so many claims and items to come
   abbrev many_left : ℕ → ℕ → ManyHeading
   many_left n k = record { root = root; claims = n; items = k }
@@ -59,7 +59,7 @@ module _ (root : List ℕ) (j : Judging) (p : Place) where
       ∙ ap (answered_many root j p) (lines_by-after (line_by named_claim_of (record { at = at + 1; left = ls })) (lines_by named_claim_of m) (λ all q. and_then (lines_by item_of k q) (λ is t. gives (all, is) t)) cs)
 
 -- ---- the block
-pub many_reads : (head : ManyHead) (root : List ℕ) (j : Judging) (p : Place) (at : ℕ) (ls : List (List ℕ)) → IsPlaceAfter p (at + 1) ls
+pub many_reads : (head : ManyHead) (root : List ℕ) (j : Judging) (p : LinePlace) (at : ℕ) (ls : List (List ℕ)) → IsPlaceAfter p (at + 1) ls
     → goes (keeps (knowledge_of j) (many_begins at head (Some root))) at ls ≡ answered_many root j p (many_body head (record { at = at + 1; left = ls }))
 unfolding many_body
 many_reads head root j p at ls follows = claims_read root j p head.claims head.items [] at ls follows

@@ -3,10 +3,10 @@ use Rattle.std.proofs.Common.{ℕ, ◌+◌, List, ◌++◌, ◌≡◌, ◌-◌, 
 use Rattle.std.proofs.lemmas.List.{append-nil}
 use Rattle.jf_hash.specs.Hashes.{K}
 use Rattle.jf_collide.specs.declared.judged.Judged.{Judged}
-use Rattle.jf_blocks.specs.Reading.{Place, Read, Block, and_then, line_by, gives, lines_by, side_of, named_of, claim_of, leaf_line_of, proof_block}
+use Rattle.jf_blocks.specs.Reading.{LinePlace, ReadResult, Block, and_then, line_by, gives, lines_by, side_of, named_of, claim_of, leaf_line_of, proof_block}
 use Rattle.jf_blocks.specs.Sides.{kept_sides}
 use Rattle.jf_blocks.proofs.SideLaws.{with_kept-kept_sides}
-use Rattle.jf_verify.specs.Kept.{Kept, judged_by}
+use Rattle.jf_verify.specs.Kept.{ClaimsBySubject, judged_by}
 use Rattle.jf_verify.specs.Steps.{with_side, said_to_end, keeps, line_step, silent, whole, step_of_block, side_step, name_turn, claim_turn, leaf_step}
 use Rattle.jf_verify.specs.Verdicts.{judgement_under, Judging, say_block}
 use Rattle.jf_verify.specs.declared.stage.Heading.{Heading}
@@ -15,11 +15,11 @@ use Rattle.jf_verify.proofs.KeptLaws.{kept_claims, with_kept_claims, judged_by-k
 use Rattle.jf_verify.proofs.LineRead.{knowledge_of, goes, goes_from, IsPlaceAfter, by_line, lines_by-after, some_left}
 
 -- the text of a block that was read or not, and then of the lines after it
-abbrev pub answered : List ℕ → Judging → Place → Read Block → List ℕ
+abbrev pub answered : List ℕ → Judging → LinePlace → ReadResult Block → List ℕ
 answered root j p r = goes_from (say_block root j p r)
 
 -- ---- siblings
-module _ (root name : List ℕ) (claim : Option (List ℕ)) (leaf : Option (List ℕ × List ℕ)) (j : Judging) (p : Place) where
+module _ (root name : List ℕ) (claim : Option (List ℕ)) (leaf : Option (List ℕ × List ℕ)) (j : Judging) (p : LinePlace) where
   -- with this many siblings to come
   abbrev heading_with : ℕ → Heading
   heading_with n = record { root = root; missing = n }
@@ -29,7 +29,7 @@ module _ (root name : List ℕ) (claim : Option (List ℕ)) (leaf : Option (List
   block siblings = record { key = K name; claim = claim; proof = record { leaf = leaf; siblings = siblings } }
 
   -- a block that was read with these siblings
-  abbrev block_read : List (List ℕ) → Place → Read Block
+  abbrev block_read : List (List ℕ) → LinePlace → ReadResult Block
   block_read siblings t = gives (name, claim, record { leaf = leaf; siblings = siblings }) t
 
   -- what is known of the block after these siblings
@@ -45,7 +45,7 @@ module _ (root name : List ℕ) (claim : Option (List ℕ)) (leaf : Option (List
   whole_judged siblings at ls =
       let same : judged_by root (kept_claims j.claims) (part siblings) ≡ with_kept_claims (judgement_under root j.claims (block siblings)) =
       judged_by-kept_claims root j.claims (part siblings) ∙ ap with_kept_claims (judged-kept_sides root j.claims (block siblings)) in
-      ap (λ (v : List ℕ × Kept). v.0 ++ said_to_end (record { at = at + 1; known = record { root = j.root; kept = v.1 }; stage = stage.Between }) ls) same
+      ap (λ (v : List ℕ × ClaimsBySubject). v.0 ++ said_to_end (record { at = at + 1; known = record { root = j.root; kept = v.1 }; stage = stage.Between }) ls) same
 
   sides_read : (n : ℕ) (siblings : List (List ℕ)) (at : ℕ) (ls : List (List ℕ)) → IsPlaceAfter p (at + 1) ls
       → goes (step_of_block (knowledge_of j) (heading_with n) (part siblings)) at ls
@@ -66,7 +66,7 @@ module _ (root name : List ℕ) (claim : Option (List ℕ)) (leaf : Option (List
       ∙ ap (answered root j p) (lines_by-after (line_by side_of (record { at = at + 1; left = ls })) (lines_by side_of m) block_read siblings)
 
 -- ---- the block
-pub block_reads : (n : ℕ) (root : List ℕ) (j : Judging) (p : Place) (at : ℕ) (left : List (List ℕ)) → IsPlaceAfter p at left
+pub block_reads : (n : ℕ) (root : List ℕ) (j : Judging) (p : LinePlace) (at : ℕ) (left : List (List ℕ)) → IsPlaceAfter p at left
     → said_to_end (record { at = at; known = knowledge_of j; stage = stage.Name (record { root = root; missing = n }) }) left ≡ answered root j p (proof_block n (record { at = at; left = left }))
 unfolding proof_block line_step
 block_reads n root j p at left follows =

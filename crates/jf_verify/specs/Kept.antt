@@ -38,14 +38,14 @@ table_with_claim table a = insert_entry subject_cmp table (subject_of a) a
 
 -- ---- at most two claims on a subject
 -- the claims that are kept
-pub record Kept : Type 0 where
+pub record ClaimsBySubject : Type 0 where
   -- the first on each subject
   pub firsts : AcceptedClaims
   -- the first on each subject that differs from the first one
   pub others : AcceptedClaims
 
 -- no claim
-abbrev pub nothing_kept : Kept
+abbrev pub nothing_kept : ClaimsBySubject
 nothing_kept = record { firsts = []; others = [] }
 
 -- a claim, if there is one, as a list
@@ -54,15 +54,15 @@ list_of_claim None = []
 list_of_claim (Some a) = a ∷ []
 
 -- the claims on a subject: the first, and the first that differs from it
-abbrev pub claims_on : Kept → Subject → List Accepted
+abbrev pub claims_on : ClaimsBySubject → Subject → List Accepted
 claims_on k s = list_of_claim (claim_on k.firsts s) ++ list_of_claim (claim_on k.others s)
 
 -- whether a claim is the first on its subject that differs from the first one
-abbrev pub is_first_to_differ : Kept → Accepted → Accepted → Bool
+abbrev pub is_first_to_differ : ClaimsBySubject → Accepted → Accepted → Bool
 is_first_to_differ k a first = contradicts a first && not (is_some (claim_on k.others (subject_of a)))
 
 -- what is kept after one claim more
-abbrev pub with_claim : Kept → Accepted → Kept
+abbrev pub with_claim : ClaimsBySubject → Accepted → ClaimsBySubject
 with_claim k a =
     elim (claim_on k.firsts (subject_of a)) [
       | None ↦ record { firsts = table_with_claim k.firsts a; others = k.others }
@@ -70,7 +70,7 @@ with_claim k a =
     ]
 
 -- what a claim is answered under a root, and what is kept after it
-unfoldable pub judged_by : List ℕ → Kept → Judged → List ℕ × Kept
+unfoldable pub judged_by : List ℕ → ClaimsBySubject → Judged → List ℕ × ClaimsBySubject
 judged_by root kept j =
     let a : Accepted = record { root = root; judged = j } in
     elim (refusal root j.key j.claim j.proof) [

@@ -16,14 +16,14 @@ use Rattle.jf_verify.specs.declared.opening.Opening.TheVariants as opening
 use Rattle.jf_verify.specs.declared.many_stage.ManyHeading.{ManyHeading}
 use Rattle.jf_verify.specs.declared.stage.Stage.{Stage}
 use Rattle.jf_verify.specs.Verdicts.{syntax_text, many_verdict_text}
-use Rattle.jf_verify.specs.Kept.{Kept, nothing_kept, judged_by}
+use Rattle.jf_verify.specs.Kept.{ClaimsBySubject, nothing_kept, judged_by}
 use Rattle.jf_verify.specs.declared.stage.Heading.{Heading}
 use Rattle.jf_verify.specs.declared.stage.Stage.TheVariants as stage
 
 -- what is known: the root that was set, and the accepted claims that are kept
 pub record Knowledge : Type 0 where
   pub root : Option (List ℕ)
-  pub kept : Kept
+  pub kept : ClaimsBySubject
 
 -- no root is set, and no claim is accepted
 abbrev pub no_knowledge : Knowledge

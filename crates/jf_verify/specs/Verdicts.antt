@@ -9,7 +9,7 @@ use Rattle.jf_evidence.specs.Proofs.{refusal}
 use Rattle.jf_evidence.specs.declared.proof.ProofFault.TheVariants as fault
 use Rattle.jf_collide.specs.declared.judged.Judged.{Judged}
 use Rattle.jf_text.specs.Words.{line_text, Extends}
-use Rattle.jf_blocks.specs.Reading.{Block, Place, Read, proof_block, line_read, first_place}
+use Rattle.jf_blocks.specs.Reading.{Block, LinePlace, ReadResult, proof_block, line_read, first_place}
 use Rattle.jf_many_blocks.specs.ManyBlocks.{on_keys}
 use Rattle.jf_many_blocks.specs.ManyReading.{ManyBlock, many_body}
 use Rattle.jf_multi.specs.Verdicts.{many_refusal}
@@ -100,31 +100,31 @@ abbrev pub syntax_text : ℕ → List ℕ
 syntax_text at = line_text (codes "syntax" ∷ decimal at ∷ [])
 
 -- the place after line `at`
-abbrev pub place_after : ℕ → Place → Place
+abbrev pub place_after : ℕ → LinePlace → LinePlace
 place_after at p = record { at = at + 1; left = drop (at + 1 - p.at) p.left }
 
 -- the text that answers a root or a block, what is known after it, and the place after it
-pub record Said : Type 0 where
+pub record BlockAnswer : Type 0 where
   pub text : List ℕ
   pub known : Judging
-  pub place : Place
+  pub place : LinePlace
 
 -- line `at` is the first that doesn't match: it is named, and reading goes on after it
-abbrev pub wrong_at : ℕ → Judging → Place → Said
+abbrev pub wrong_at : ℕ → Judging → LinePlace → BlockAnswer
 wrong_at at j p = record { text = syntax_text at; known = j; place = place_after at p }
 
 -- a proof block was read and is judged, or one of its lines doesn't match
-abbrev pub say_block : List ℕ → Judging → Place → Read Block → Said
+abbrev pub say_block : List ℕ → Judging → LinePlace → ReadResult Block → BlockAnswer
 say_block root j p (Err at) = wrong_at at j p
 say_block root j p (Ok b) = let a = judgement_under root j.claims (judged_of b.0) in record { text = a.0; known = record { root = j.root; claims = a.1 }; place = b.1 }
 
 -- a block of many claims was read and is judged, or one of its lines doesn't match. Its claims are not among the accepted ones after it
-abbrev pub say_many : List ℕ → Judging → Place → Read ManyBlock → Said
+abbrev pub say_many : List ℕ → Judging → LinePlace → ReadResult ManyBlock → BlockAnswer
 say_many root j p (Err at) = wrong_at at j p
 say_many root j p (Ok b) = record { text = many_verdict_text (many_refusal root (on_keys b.0.0) b.0.1); known = j; place = b.1 }
 
 -- what a line between blocks makes: a root, a block, or no match. Its place is p, and q is the one after it
-abbrev pub say : Judging → Place → Place → Option Opening → Said
+abbrev pub say : Judging → LinePlace → LinePlace → Option Opening → BlockAnswer
 say j p q None = wrong_at p.at j p
 say j p q (Some (opening.Root root)) = record { text = []; known = record { root = Some root; claims = j.claims }; place = q }
 say j p q (Some (opening.Proof n)) = elim j.root [ None ↦ wrong_at p.at j p | Some root ↦ say_block root j p (proof_block n q) ]
@@ -132,7 +132,7 @@ say j p q (Some (opening.Many head)) = elim j.root [ None ↦ wrong_at p.at j p 
 
 -- ---- all of the input
 -- the text that answers the lines from a place on; n is at least their number
-unfoldable pub verdicts_from : ℕ → Judging → Place → List ℕ
+unfoldable pub verdicts_from : ℕ → Judging → LinePlace → List ℕ
 verdicts_from zero j p = []
 verdicts_from (suc n) j p =
     elim p.left [ [] ↦ [] | line ∷ rest ↦ let s = say j p (record { at = p.at + 1; left = rest }) (line_read opening_of line) in s.text ++ verdicts_from n s.known s.place ]

@@ -21,9 +21,9 @@ pub struct KeptClaims {
 }
 
 impl Model for KeptClaims {
-    ghost use Rattle.jf_verify.specs.Kept.{Kept};
+    ghost use Rattle.jf_verify.specs.Kept.{ClaimsBySubject};
 
-    ghost Value = { Kept };
+    ghost Value = { ClaimsBySubject };
 
     ghost view = { λ k. record { firsts = k.firsts; others = k.others } };
 }

@@ -6,7 +6,7 @@ use Rattle.jf_io.specs.Sink.{IsCutShort}
 use Rattle.jf_store.specs.Events.{is_marked}
 use Rattle.jf_store.specs.Starts.{Start}
 use Rattle.jf_store.specs.Passes.{Store, Pass, IsPassOf}
-use Rattle.jf_answers.specs.Explains.{Answered}
+use Rattle.jf_answers.specs.Explains.{LineReply}
 use Rattle.jf_history.specs.Sessions.{Session, HoldsPins, new_session, HasReplied, IsTry, IsBroken, HasDoneNothing}
 use Rattle.jf_history.specs.Runs.{HasAnswered, EndsBy}
 use Rattle.jf_history.specs.declared.end.End.{End}
@@ -14,7 +14,7 @@ use Rattle.jf_history.specs.declared.end.End.TheVariants as end
 use Rattle.jf_history.proofs.Steps.{none_answered, one_more_answered}
 use Rattle.jf_generate.specs.Scripts.{max_lines}
 use Rattle.jf_generate.specs.Places.{GivesNext}
-use Rattle.jf_generate.specs.Reports.{Tallied, tally_of, is_refused, tally_text}
+use Rattle.jf_generate.specs.Reports.{Tally, tally_of, is_refused, tally_text}
 use Rattle.jf_session.specs.Taking.{end_of_stop}
 use Rattle.jf_session.specs.declared.stop.Stop.{Stop}
 use Rattle.jf_session.specs.declared.stop.Stop.TheVariants as stop
@@ -35,7 +35,7 @@ next_none (l ∷ ls) after line there g test = let some : there ≡ true = g.0 i
 -- ---- the lines done
 
 -- a session over a pass of a store has answered the first lines of a script, and may go on with those that are left
-pub record SoFar (store : Store) (old : Pass) (script left : List (List ℕ)) (now : Session) (kept : Tallied) : Type 0 where
+pub record SoFar (store : Store) (old : Pass) (script left : List (List ℕ)) (now : Session) (kept : Tally) : Type 0 where
   pub done : List (List ℕ)
   pub split : script ≡ done ++ left
   pub tallied : HasTallied store.start old now done kept
@@ -43,7 +43,7 @@ pub record SoFar (store : Store) (old : Pass) (script left : List (List ℕ)) (n
   pub own : IsPassOf now.pass store
 
 -- before the first line
-pub so_far_none : (store : Store) (script : List (List ℕ)) (now : Session) (kept : Tallied) → IsPassOf now.pass store → now ≡ new_session now.pass → is_marked now.pass.seen ≡ false → HoldsPins now → kept ≡ tally_of [] → SoFar store now.pass script script now kept
+pub so_far_none : (store : Store) (script : List (List ℕ)) (now : Session) (kept : Tally) → IsPassOf now.pass store → now ≡ new_session now.pass → is_marked now.pass.seen ≡ false → HoldsPins now → kept ≡ tally_of [] → SoFar store now.pass script script now kept
 so_far_none store script now kept own new unmarked pins none = record {
   done = [];
   split = refl;
@@ -56,14 +56,14 @@ so_far_none store script now kept own new unmarked pins none = record {
   own = own;
 }
 
-module _ {store : Store} {old : Pass} {script left : List (List ℕ)} {now : Session} {kept : Tallied} (f : SoFar store old script left now kept) where
+module _ {store : Store} {old : Pass} {script left : List (List ℕ)} {now : Session} {kept : Tally} (f : SoFar store old script left now kept) where
   -- so few lines were done that one refusal more can be counted
   pub few_refused : length script ≤ max_lines → kept.refused + 1 < 2 ^ 64
   few_refused few =
       let rs = f.tallied.replies in
-      let refused : kept.refused ≡ (tally_of (reply_texts rs)).refused = ap (λ (k : Tallied). k.refused) f.tallied.kept_is in
+      let refused : kept.refused ≡ (tally_of (reply_texts rs)).refused = ap (λ (k : Tally). k.refused) f.tallied.kept_is in
       let most = count_by-le-length is_refused (reply_texts rs) in
-      let texts = length-map rs (λ (a : Answered). a.text) in
+      let texts = length-map rs (λ (a : LineReply). a.text) in
       let all = f.tallied.answered.all in
       omega (arith, ap (λ (ls : List (List ℕ)). length ls) f.split, length-append f.done left)
 
@@ -95,15 +95,15 @@ module _ {store : Store} {old : Pass} {script left : List (List ℕ)} {now : Ses
     split_more : script ≡ (f.done ++ line ∷ []) ++ left'
     split_more = split_next ∙ sym (append_assoc f.done (line ∷ []) left')
 
-    answered_more : (new : Session) (r : Answered) → HasReplied store.start now new line r → HasAnswered store.start old new (f.done ++ line ∷ []) (f.tallied.replies ++ r ∷ [])
+    answered_more : (new : Session) (r : LineReply) → HasReplied store.start now new line r → HasAnswered store.start old new (f.done ++ line ∷ []) (f.tallied.replies ++ r ∷ [])
     answered_more new r replied = one_more_answered store.start old now new f.done f.tallied.replies line r f.tallied.answered replied
 
     -- it was answered, and its reply counted
-    pub so_far_more : (new : Session) (kept' : Tallied) (r : Answered) (text : List ℕ) → HasReplied store.start now new line r → text ≡ r.text → ((texts : List (List ℕ)) → kept ≡ tally_of texts → kept' ≡ tally_of (texts ++ text ∷ []))
+    pub so_far_more : (new : Session) (kept' : Tally) (r : LineReply) (text : List ℕ) → HasReplied store.start now new line r → text ≡ r.text → ((texts : List (List ℕ)) → kept ≡ tally_of texts → kept' ≡ tally_of (texts ++ text ∷ []))
         → new.over ≡ false → IsPassOf new.pass store → SoFar store old script left' new kept'
     so_far_more new kept' r text replied is counted over own =
         let rs = f.tallied.replies in
-        let more : reply_texts rs ++ text ∷ [] ≡ reply_texts (rs ++ r ∷ []) = ap (λ (x : List ℕ). reply_texts rs ++ x ∷ []) is ∙ sym (map-append (λ (a : Answered). a.text) rs (r ∷ [])) in
+        let more : reply_texts rs ++ text ∷ [] ≡ reply_texts (rs ++ r ∷ []) = ap (λ (x : List ℕ). reply_texts rs ++ x ∷ []) is ∙ sym (map-append (λ (a : LineReply). a.text) rs (r ∷ [])) in
         record {
           done = f.done ++ line ∷ [];
           split = split_more;
@@ -113,7 +113,7 @@ module _ {store : Store} {old : Pass} {script left : List (List ℕ)} {now : Ses
         }
 
     -- it was answered, and memory ran out before its reply was counted
-    pub ended_uncounted : (new : Session) (r : Answered) → HasReplied store.start now new line r → (text : Option (List ℕ)) → HasRunScript end.Memory store.start script old new.pass text text
+    pub ended_uncounted : (new : Session) (r : LineReply) → HasReplied store.start now new line r → (text : Option (List ℕ)) → HasRunScript end.Memory store.start script old new.pass text text
     ended_uncounted new r replied text = record {
       done = f.done ++ line ∷ [];
       replies = f.tallied.replies ++ r ∷ [];
@@ -144,7 +144,7 @@ module _ {store : Store} {old : Pass} {script left : List (List ℕ)} {now : Ses
       writes = writes;
     }
 
-    pub ended_at : (why : Stop) (new : Session) → (why ≡ stop.DiskFault → IsTry store.start now new line) → (why ≡ stop.Broken → IsBroken now new line) → (why ≡ stop.Memory → HasDoneNothing now new line ⊎ ((r : Answered) × HasReplied store.start now new line r))
+    pub ended_at : (why : Stop) (new : Session) → (why ≡ stop.DiskFault → IsTry store.start now new line) → (why ≡ stop.Broken → IsBroken now new line) → (why ≡ stop.Memory → HasDoneNothing now new line ⊎ ((r : LineReply) × HasReplied store.start now new line r))
         → (text : Option (List ℕ)) → HasRunScript (end_of_stop why) store.start script old new.pass text text
     ended_at stop.DiskFault new fault broken memory text = ended_in end.DiskFault new text (line, refl, fault refl) refl
     ended_at stop.Broken new fault broken memory text = ended_in end.Broken new text (line, refl, broken refl) refl
@@ -153,7 +153,7 @@ module _ {store : Store} {old : Pass} {script left : List (List ℕ)} {now : Ses
 -- ---- all lines
 
 -- the report was written as far as the end says
-module _ (start : Start) (script : List (List ℕ)) (old : Pass) (now : Session) (kept : Tallied) (text text' : Option (List ℕ)) (t : HasTallied start old now script kept) where
+module _ (start : Start) (script : List (List ℕ)) (old : Pass) (now : Session) (kept : Tally) (text text' : Option (List ℕ)) (t : HasTallied start old now script kept) where
   ended_whole : (e : End) → EndsBy e start now now None → WritesReport e script script (reply_texts t.replies) text text' → HasRunScript e start script old now.pass text text'
   ended_whole e ends writes = record {
     done = script;
@@ -170,9 +170,9 @@ module _ (start : Start) (script : List (List ℕ)) (old : Pass) (now : Session)
   }
 
   pub ended_reported : (e : End) → HasReported e (tally_text kept) text text' → HasRunScript e start script old now.pass text text'
-  ended_reported end.Done w = ended_whole end.Done (refl, refl) (refl, subst (λ (k : Tallied). text' ≡ option_map (λ x. x ++ tally_text k) text) t.kept_is w)
+  ended_reported end.Done w = ended_whole end.Done (refl, refl) (refl, subst (λ (k : Tally). text' ≡ option_map (λ x. x ++ tally_text k) text) t.kept_is w)
   ended_reported end.ReadFault w = absurd w
-  ended_reported end.WriteFault w = ended_whole end.WriteFault refl (refl, subst (λ (k : Tallied). IsCutShort text text' (tally_text k)) t.kept_is w)
+  ended_reported end.WriteFault w = ended_whole end.WriteFault refl (refl, subst (λ (k : Tally). IsCutShort text text' (tally_text k)) t.kept_is w)
   ended_reported end.DiskFault w = absurd w
   ended_reported end.Broken w = absurd w
   ended_reported end.Memory w = ended_whole end.Memory refl w

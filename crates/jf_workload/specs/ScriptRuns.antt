@@ -3,12 +3,12 @@ use Rattle.std.specs.Prelude.{◌≡◌, ℕ, List, ◌++◌, map, Option, optio
 use Rattle.jf_io.specs.Sink.{IsCutShort}
 use Rattle.jf_store.specs.Starts.{Start}
 use Rattle.jf_store.specs.Passes.{Pass}
-use Rattle.jf_answers.specs.Explains.{Answered}
+use Rattle.jf_answers.specs.Explains.{LineReply}
 use Rattle.jf_history.specs.Sessions.{Session}
 use Rattle.jf_history.specs.Runs.{HasAnswered, EndsBy}
 use Rattle.jf_history.specs.declared.end.End.{End}
 use Rattle.jf_history.specs.declared.end.End.TheVariants as end
-use Rattle.jf_generate.specs.Reports.{Tallied, tally_of, generate_output}
+use Rattle.jf_generate.specs.Reports.{Tally, tally_of, generate_output}
 
 -- what was written, by how the run ended: after all lines of the script, what the mode writes of the texts of their replies, or a front of it; else nothing
 abbrev pub WritesReport : End → List (List ℕ) → List (List ℕ) → List (List ℕ) → Option (List ℕ) → Option (List ℕ) → Type 0
@@ -20,13 +20,13 @@ WritesReport end.Broken script done texts text text' = text' ≡ text
 WritesReport end.Memory script done texts text text' = text' ≡ text
 
 -- the texts of replies
-abbrev pub reply_texts : List Answered → List (List ℕ)
+abbrev pub reply_texts : List LineReply → List (List ℕ)
 reply_texts rs = map (λ r. r.text) rs
 
 -- a script's run over a pass: the lines done, with their replies, and the next, if one was started, are the script's first
 pub record HasRunScript (e : End) (start : Start) (script : List (List ℕ)) (old new : Pass) (text text' : Option (List ℕ)) : Type 0 where
   pub done : List (List ℕ)
-  pub replies : List Answered
+  pub replies : List LineReply
   pub next : Option (List ℕ)
   pub more : List (List ℕ)
   pub mid : Session
@@ -39,8 +39,8 @@ pub record HasRunScript (e : End) (start : Start) (script : List (List ℕ)) (ol
 
 -- ---- the parts of a run
 -- a session answered these lines, its first, over a pass, and this is kept of the replies
-pub record HasTallied (start : Start) (old : Pass) (now : Session) (ls : List (List ℕ)) (kept : Tallied) : Type 0 where
-  pub replies : List Answered
+pub record HasTallied (start : Start) (old : Pass) (now : Session) (ls : List (List ℕ)) (kept : Tally) : Type 0 where
+  pub replies : List LineReply
   pub answered : HasAnswered start old now ls replies
   pub kept_is : kept ≡ tally_of (reply_texts replies)
 

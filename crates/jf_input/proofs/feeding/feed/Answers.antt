@@ -1,5 +1,5 @@
 use Rattle.std.proofs.Common.{◌≡◌, [], inl, ap, sym, ◌∙◌, le_refl, Ok, Err, arith}
-use Rattle.jf_io.specs.LineReader.{Held}
+use Rattle.jf_io.specs.LineReader.{ReaderState}
 use Rattle.jf_io.specs.Sink.{IsCutShort}
 use Rattle.jf_input.specs.Feeds.{Appends, HandsOn}
 use Rattle.jf_input.proofs.Gathering.{from_ok, from_err, from_not}
@@ -7,7 +7,7 @@ use Rattle.jf_input.proofs.Progress.{so_far_none, so_far_same, so_far_handed, so
 use Rattle.jf_input.proofs.feeding.feed.Goals as goal
 
 pub loop-turn-init : goal.loop-turn-init
-loop-turn-init g c = record { ready = c.requires.ready; so_far = so_far_none c.new-reader.result c.new-out.result c.new-reader.ensures c.new-out.ensures; gathered = inl c.new-out.ensures; piece = ap (λ (h : Held). h.piece) c.new-reader.ensures; source_faults = le_refl _; sink_faults = le_refl _ }
+loop-turn-init g c = record { ready = c.requires.ready; so_far = so_far_none c.new-reader.result c.new-out.result c.new-reader.ensures c.new-out.ensures; gathered = inl c.new-out.ensures; piece = ap (λ (h : ReaderState). h.piece) c.new-reader.ensures; source_faults = le_refl _; sink_faults = le_refl _ }
 
 pub returns-then-is_err-clause-fed : goal.returns-then-is_err-clause-fed
 returns-then-is_err-clause-fed g c =
@@ -43,7 +43,7 @@ returns-in-Err-clause-fed g c =
     let ok = sym c.is_err.ensures.value ∙ c.if-is_err.false in
     let on : HandsOn (g.K.Sink.text c.loop-turn.sink) (g.K.Sink.text c.hand_on_if.new.sink) c.loop-turn.out c.hand_on_if.new.out = from_ok c.hand_on_if.result ok c.hand_on_if.ensures.ok in
     let f = so_far_fetched (so_far_handed (so_far_same c.loop-turn.invariant.so_far c.finds_line-asks.ensures.unchanged) on) {held' = c.next_line.new.reader} c.next_line.ensures.limit c.next_line.ensures.kept in
-    let piece : c.next_line.new.reader.piece ≡ c.args.piece = c.next_line.ensures.piece ∙ ap (λ (h : Held). h.piece) c.finds_line-asks.ensures.unchanged ∙ c.loop-turn.invariant.piece in
+    let piece : c.next_line.new.reader.piece ≡ c.args.piece = c.next_line.ensures.piece ∙ ap (λ (h : ReaderState). h.piece) c.finds_line-asks.ensures.unchanged ∙ c.loop-turn.invariant.piece in
     fed_at_line f c.line.ensures c.in-Err.how (c.in-Ok-true.ensures.found (ap (λ b. Ok b) c.in-Ok-true.field-0-test)) (omega (arith, c.next_line.ensures.ahead, piece)) c.in-Err.ensures.err
 
 pub returns-in-Err-clause-read : goal.returns-in-Err-clause-read
@@ -76,7 +76,7 @@ loop-turn-preserved g c =
       ready = c.in-Ok.ensures.ready;
       so_far = so_far_line f c.line.ensures (λ whole. let yes = c.is_last-is_last.ensures.1 whole in let is = c.if-is_last.false in absurd (cc)) c.in-Ok.ensures.ok c.advance.ensures;
       gathered = so_far_gathered f c.line.ensures c.in-Ok.ensures.ok;
-      piece = ap (λ (h : Held). h.piece) c.advance.ensures ∙ c.next_line.ensures.piece ∙ ap (λ (h : Held). h.piece) c.finds_line-asks.ensures.unchanged ∙ c.loop-turn.invariant.piece;
+      piece = ap (λ (h : ReaderState). h.piece) c.advance.ensures ∙ c.next_line.ensures.piece ∙ ap (λ (h : ReaderState). h.piece) c.finds_line-asks.ensures.unchanged ∙ c.loop-turn.invariant.piece;
       source_faults = omega (arith, c.loop-turn.invariant.source_faults, c.next_line.ensures.counts);
       sink_faults = omega (arith, c.loop-turn.invariant.sink_faults, c.hand_on_if.ensures.counts, c.feed_line.ensures.counts);
     }

@@ -8,7 +8,7 @@ use Rattle.jf_node.specs.LinkFacts.{BeginAlike}
 use Rattle.jf_path.proofs.ListLaws.{take-rest}
 use Rattle.jf_walk.proofs.PartLaws.{deeper}
 use Rattle.jf_walk.proofs.PartChanges.{IsPartUnder-applied}
-use Rattle.jf_update.specs.Made.{Built}
+use Rattle.jf_update.specs.Made.{IsBuilt}
 use Rattle.jf_update.proofs.BuildLaws.{built_nothing, built_kept, built_put, joined_built, part_agrees, building_start, building_more, building_done, IsBuilding, piece_parts, piece_applied, few_at, built_inner, end_in_rest}
 use Rattle.jf_update.proofs.RemainderLaws.{hashes_cut, hashes_long}
 use Rattle.jf_update.proofs.leaf.+build.Goals as goal
@@ -91,10 +91,10 @@ build_children-loop-n-preserved t c =
     let end : IsPieceEnd c.args.depth c.loop-n.n c.piece_end.result (drop c.loop-n.start bs) =
     subst (λ n. IsPieceEnd c.args.depth n c.piece_end.result (drop c.loop-n.start bs)) c.of-nibble.ensures (end_in_rest _ _ _ c.loop-n.start bs c.piece_end.ensures) in
     let is : content (option_copied c.own_at.result) ≡ with_nibble c.args.depth c.loop-n.n own = subst (λ n. content (option_copied c.own_at.result) ≡ with_nibble c.args.depth n own) c.of-nibble.ensures c.own_at.ensures in
-    let made : Built (c.args.depth + 1) c.args.version (entries_after_batch (content (option_copied c.own_at.result)) (take ((c.loop-n.start + c.piece_end.result) - c.loop-n.start) (drop c.loop-n.start bs))) c.in_ok-build.field-0 = c.in_ok-build.ensures in
+    let made : IsBuilt (c.args.depth + 1) c.args.version (entries_after_batch (content (option_copied c.own_at.result)) (take ((c.loop-n.start + c.piece_end.result) - c.loop-n.start) (drop c.loop-n.start bs))) c.in_ok-build.field-0 = c.in_ok-build.ensures in
     let more : IsBuilding c.args.depth c.args.version (c.loop-n.n + 1) (c.loop-n.start + c.piece_end.result) es bs (set c.loop-n.children c.loop-n.n c.in_ok-build.field-0) =
     building_more c.args.depth c.args.version c.loop-n.n c.loop-n.start c.piece_end.result c.requires.parts.path es bs c.loop-n.children c.in_ok-build.field-0 c.requires.parts.batch (omega arith) c.loop-n.invariant end
-    (subst (λ xs. Built (c.args.depth + 1) c.args.version xs c.in_ok-build.field-0) (piece_applied c.args.depth c.loop-n.n c.loop-n.start c.piece_end.result own _ bs c.requires.parts c.loop-n.invariant.rest end is) made) in
+    (subst (λ xs. IsBuilt (c.args.depth + 1) c.args.version xs c.in_ok-build.field-0) (piece_applied c.args.depth c.loop-n.n c.loop-n.start c.piece_end.result own _ bs c.requires.parts c.loop-n.invariant.rest end is) made) in
     subst (IsBuilding c.args.depth c.args.version (c.loop-n.n + 1) (c.loop-n.start + c.piece_end.result) es bs) (sym c.set.ensures)
     (subst (λ n. IsBuilding c.args.depth c.args.version (c.loop-n.n + 1) (c.loop-n.start + c.piece_end.result) es bs (set c.loop-n.children n c.in_ok-build.field-0)) (sym c.of-nibble.ensures) more)
 

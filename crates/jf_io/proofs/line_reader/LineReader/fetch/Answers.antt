@@ -1,5 +1,5 @@
 use Rattle.std.proofs.Common.{◌≡◌, refl, le_refl, ap, ◌∙◌, arith}
-use Rattle.jf_io.specs.LineReader.{is_line_feed, Held}
+use Rattle.jf_io.specs.LineReader.{is_line_feed, ReaderState}
 use Rattle.jf_io.proofs.Lines.{nowhere}
 use Rattle.jf_io.proofs.Shortened.{is_fetched-none, is_fetched-step, short_is_plain}
 use Rattle.jf_io.proofs.line_reader.LineReader.fetch.Goals as goal
@@ -33,8 +33,8 @@ loop-self-preserved g c = record {
   kept = λ text s.
       is_fetched-step _ text c.loop-self.self c.finds_line.new.self c.shorten.new.self c.take_piece.new.self _ _ _ (c.loop-self.invariant.kept text s) c.loop-self.invariant.limit c.finds_line.ensures.unchanged
       (nowhere is_line_feed _ _ (λ h. let held = c.if-finds_line.ensures.found.1 h in cc) refl) c.shorten.ensures c.take_piece.ensures.front c.take_piece.ensures.kept;
-  limit = c.take_piece.ensures.limit ∙ ap (λ (h : Held). h.limit) c.shorten.ensures ∙ ap (λ (h : Held). h.limit) c.finds_line.ensures.unchanged ∙ c.loop-self.invariant.limit;
-  piece = c.take_piece.ensures.piece ∙ ap (λ (h : Held). h.piece) c.shorten.ensures ∙ ap (λ (h : Held). h.piece) c.finds_line.ensures.unchanged ∙ c.loop-self.invariant.piece;
+  limit = c.take_piece.ensures.limit ∙ ap (λ (h : ReaderState). h.limit) c.shorten.ensures ∙ ap (λ (h : ReaderState). h.limit) c.finds_line.ensures.unchanged ∙ c.loop-self.invariant.limit;
+  piece = c.take_piece.ensures.piece ∙ ap (λ (h : ReaderState). h.piece) c.shorten.ensures ∙ ap (λ (h : ReaderState). h.piece) c.finds_line.ensures.unchanged ∙ c.loop-self.invariant.piece;
   ready = λ h.
       let at = c.loop-self.invariant.ready h in
       let is : c.finds_line.new.self ≡ c.args.self.now = c.finds_line.ensures.unchanged ∙ at.0 in

@@ -1,6 +1,6 @@
 use Rattle.std.proofs.Common.{◌≡◌, ◌+◌, ◌≤◌, sym, ap, ◌∙◌, subst, length, take, drop, arith, length-take, length-drop}
 use Rattle.std.specs.List.{position_or_len}
-use Rattle.jf_io.specs.LineReader.{is_line_feed, Held}
+use Rattle.jf_io.specs.LineReader.{is_line_feed, ReaderState}
 use Rattle.jf_io.proofs.Shortened.{drop-short, is_searched-short, take_plain}
 use Rattle.jf_io.proofs.AfterLines.{few_none}
 use Rattle.jf_io.proofs.line_reader.LineReader.shorten.Goals as goal
@@ -10,8 +10,8 @@ invariant_of-self c =
     let bytes = c.self.inside.bytes.items in
     let start = c.self.inside.start in
     let limit = c.self.inside.limit in
-    let plain = subst (λ (h : Held). position_or_len is_line_feed h.bytes ≡ length h.bytes) (sym c.self.view_is) c.requires in
-    let size = subst (λ (h : Held). c.len.result ≡ length h.bytes) (sym c.self.view_is) c.len.ensures in
+    let plain = subst (λ (h : ReaderState). position_or_len is_line_feed h.bytes ≡ length h.bytes) (sym c.self.view_is) c.requires in
+    let size = subst (λ (h : ReaderState). c.len.result ≡ length h.bytes) (sym c.self.view_is) c.len.ensures in
     let fits : start + limit + 1 ≤ length bytes = omega (arith, length-drop start bytes, c.if-len-self.true, size) in (
       is_searched-short bytes c.truncate.new.self.items start limit c.len-self-inside.result plain fits c.truncate.ensures.items (omega (arith, c.len-self-inside.ensures)),
       record {
@@ -24,6 +24,6 @@ invariant_of-self c =
 pub returns-then-len-self : goal.returns-then-len-self
 returns-then-len-self c =
     let limit = c.self.inside.limit in
-    let held : Held = record { limit = limit; piece = c.self.inside.piece; bytes = drop c.self.inside.start c.self.inside.bytes.items } in
+    let held : ReaderState = record { limit = limit; piece = c.self.inside.piece; bytes = drop c.self.inside.start c.self.inside.bytes.items } in
     ap (λ b. record held { bytes = b }) (drop-short c.self.inside.bytes.items c.truncate.new.self.items c.self.inside.start limit c.truncate.ensures.items)
-    ∙ ap (λ (h : Held). record h { bytes = take (h.limit + 1) h.bytes }) c.self.view_is
+    ∙ ap (λ (h : ReaderState). record h { bytes = take (h.limit + 1) h.bytes }) c.self.view_is

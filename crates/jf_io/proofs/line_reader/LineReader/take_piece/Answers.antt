@@ -1,14 +1,14 @@
 use Rattle.std.proofs.Common.{◌≡◌, ◌+◌, ◌≤◌, sym, subst, length, ap, arith}
 use Rattle.std.specs.List.{position_or_len}
-use Rattle.jf_io.specs.LineReader.{Held, is_line_feed}
+use Rattle.jf_io.specs.LineReader.{ReaderState, is_line_feed}
 use Rattle.jf_io.proofs.Lines.{is_searched-moved}
 use Rattle.jf_io.proofs.AfterLines.{few_more}
 use Rattle.jf_io.proofs.line_reader.LineReader.take_piece.Goals as goal
 
 pub invariant_of-self : goal.invariant_of-self
 invariant_of-self g c =
-    let short = subst (λ (h : Held). length h.bytes ≤ h.limit + 1) (sym c.self.view_is) c.requires.short in
-    let plain = subst (λ (h : Held). position_or_len is_line_feed h.bytes ≡ length h.bytes) (sym c.self.view_is) c.requires.unfinished in
+    let short = subst (λ (h : ReaderState). length h.bytes ≤ h.limit + 1) (sym c.self.view_is) c.requires.short in
+    let plain = subst (λ (h : ReaderState). position_or_len is_line_feed h.bytes ≡ length h.bytes) (sym c.self.view_is) c.requires.unfinished in
     let kept : position_or_len is_line_feed c.drop_front.new.bytes.items ≡ length c.drop_front.new.bytes.items = rw c.drop_front.ensures plain in (
       is_searched-moved _ _ _ _ _ c.self.invariant.0 c.drop_front.ensures c.append_piece.ensures.front,
       record {

@@ -19,6 +19,6 @@ pub returns : goal.returns
 returns g c = λ start.
     let i = c.self.inside in (
       room_done start i.pass i.pending c.del.new.self i.over i.over c.args.self.now c.self.view_is c.self.invariant c.requires c.args.name.now None c.key_of.result c.len.result c.key_of.ensures
-          (λ full. elim (c.in-Ok.ensures.room full) [ inl e ↦ absurd (cc) | inr e ↦ absurd (cc) ]) c.in-Ok.ensures.ok c.len.ensures,
+          (λ full. elim (c.in-Ok.ensures.no_room full) [ inl e ↦ absurd (cc) | inr e ↦ absurd (cc) ]) c.in-Ok.ensures.ok c.len.ensures,
       ap (λ (s : Session). s.over) c.self.view_is ∙ c.requires,
     )

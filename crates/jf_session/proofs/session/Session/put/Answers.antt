@@ -22,6 +22,6 @@ pub returns : goal.returns
 returns g c = λ start.
     let i = c.self.inside in (
       room_done start i.pass i.pending c.put.new.self i.over i.over c.args.self.now c.self.view_is c.self.invariant c.requires.over c.args.name.now (Some c.args.value) c.key_of.result c.len.result c.key_of.ensures
-          (λ full. elim (c.in-Ok-put.ensures.room full) [ inl e ↦ absurd (cc) | inr e ↦ absurd (cc) ]) (c.in-Ok-put.ensures.ok ∙ ap (λ v. put key_cmp c.key_of.result (Some v) i.pending) c.in-Ok.ensures) c.len.ensures,
+          (λ full. elim (c.in-Ok-put.ensures.no_room full) [ inl e ↦ absurd (cc) | inr e ↦ absurd (cc) ]) (c.in-Ok-put.ensures.ok ∙ ap (λ v. put key_cmp c.key_of.result (Some v) i.pending) c.in-Ok.ensures) c.len.ensures,
       ap (λ (s : Session). s.over) c.self.view_is ∙ c.requires.over,
     )

@@ -26,8 +26,8 @@ returns-in-Ok-clause-ok c =
     let same = ap (λ e. e.0) c.index_mut.ensures.value ∙ place.same c.index_mut.result.now in
     set-put _ _ _ _ _ (record { long = c.told-key; bytes = c.fits-key }) c.requires.bytes c.requires.short c.self.invariant place same ∙ ap (put key_cmp c.args.key.now c.args.value) c.self.view_is
 
-pub returns-in-Ok-clause-room : goal.returns-in-Ok-clause-room
-returns-in-Ok-clause-room c = λ full.
+pub returns-in-Ok-clause-no_room : goal.returns-in-Ok-clause-no_room
+returns-in-Ok-clause-no_room c = λ full.
     let place = subst (λ b. IsPlaceOf c.args.key.now b c.in-Ok.at) (c.deref.ensures.value ∙ c.self.view_is) c.in-Ok.ensures.found in
     absurd (true≢false (sym full ∙ is_full-place _ _ _ place))
 
