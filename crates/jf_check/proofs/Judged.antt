@@ -4,7 +4,7 @@ use Rattle.jf_disk.specs.Disk.{Files, History, reads}
 use Rattle.jf_disk.specs.declared.side.Side.{Side}
 use Rattle.jf_model.specs.Versions.{new_store}
 use Rattle.jf_model.specs.Nodes.{kept_nodes}
-use Rattle.jf_frame.specs.Framed.{FramedRecord}
+use Rattle.jf_frame.specs.Framed.{LogRecord}
 use Rattle.jf_frame.specs.Framing.{records}
 use Rattle.jf_pair.specs.Files.{HoldsLive, live_side}
 use Rattle.jf_pair.specs.Pairs.{Pair, IsInStep}
@@ -24,11 +24,11 @@ use Rattle.jf_check.proofs.LiveSides.{live_of_held, live_some, live_none}
 
 module _ (formats : FormatsAreSound) (have : StandingsHaveVersions) (on_side : LiveSideIsThePairs) (h g : History) (same : reads g ≡ reads h) (p : Pair) (live : p.is_live ≡ true) (w : Side) (is : w ≡ p.side) where
   -- the live side of the files
-  side_is : (rs : List FramedRecord) (held : HoldsLive (reads h) rs) → IsInStep p rs g.now → w ≡ live_side held.a_records held.b_records
+  side_is : (rs : List LogRecord) (held : HoldsLive (reads h) rs) → IsInStep p rs g.now → w ≡ live_side held.a_records held.b_records
   side_is rs held step =
       is ∙ sym (on_side p rs g held.a_records held.b_records step live (ap (λ (f : Files). records f.a) same ∙ held.a_held) (ap (λ (f : Files). records f.b) same ∙ held.b_held))
 
-  pub judged_live : (rs : List FramedRecord) (c : StoreCheck) → HoldsLive (reads h) rs → IsInStep p rs g.now → 0 < length rs → IsLiveCheck w rs c → IsStoreCheck (reads h) c
+  pub judged_live : (rs : List LogRecord) (c : StoreCheck) → HoldsLive (reads h) rs → IsInStep p rs g.now → 0 < length rs → IsLiveCheck w rs c → IsStoreCheck (reads h) c
   judged_live [] c held step some found = absurd (omega arith)
   judged_live (x ∷ xs) (store_check.Damaged v at) held step some found = inr (x ∷ xs, held, found.0 ∙ side_is (x ∷ xs) held step, found.1)
   judged_live (x ∷ xs) (store_check.Sound side kept n) held step some found =

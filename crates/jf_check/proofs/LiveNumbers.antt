@@ -3,7 +3,7 @@ use Rattle.std.proofs.Common.{◌≡◌, ℕ, ◌+◌, ◌-◌, ◌<◌, List, [
 use Rattle.jf_disk.specs.Disk.{Files, bytes_of}
 use Rattle.jf_disk.specs.declared.side.Side.{Side}
 use Rattle.jf_model.specs.Versions.{Versions}
-use Rattle.jf_frame.specs.Framed.{FramedRecord}
+use Rattle.jf_frame.specs.Framed.{LogRecord}
 use Rattle.jf_frame.specs.Framing.{records, number_of, end_of}
 use Rattle.jf_pair.specs.Files.{is_begun, records_of}
 use Rattle.jf_payload.specs.Laws.{SpelledIsSpelling}
@@ -23,14 +23,14 @@ shown_if true c d is = refl
 shown_if false c d is = absurd (cc)
 
 -- an initialised side shows the numbers that its records tell
-numbers_of_begun : (size : ℕ) (rs : List FramedRecord) → is_begun rs ≡ true → numbers_shown (log_check size (Ok rs)) ≡ numbers_in rs
+numbers_of_begun : (size : ℕ) (rs : List LogRecord) → is_begun rs ≡ true → numbers_shown (log_check size (Ok rs)) ≡ numbers_in rs
 numbers_of_begun size rs begun = ap numbers_shown (shown_if (is_begun rs) (side_check.Whole size (numbers_in rs) (end_of rs) (size - (end_of rs + 1))) (side_check.Damaged size 0) begun)
 
 -- the numbers of versions in a generation
 abbrev numbers_for : ℕ → Versions → SideNumbers
 numbers_for g v = record { generation = g; base = v.base; floor = v.floor; head = v.head }
 
-led_to : SpelledIsSpelling → (g : ℕ) (rs : List FramedRecord) (v : Versions) → 0 < length rs → LeadTo rs v → ((x : FramedRecord) (xs : List FramedRecord) → rs ≡ x ∷ xs → g ≡ number_of x.payload) → numbers_in rs ≡ Some (numbers_for g v)
+led_to : SpelledIsSpelling → (g : ℕ) (rs : List LogRecord) (v : Versions) → 0 < length rs → LeadTo rs v → ((x : LogRecord) (xs : List LogRecord) → rs ≡ x ∷ xs → g ≡ number_of x.payload) → numbers_in rs ≡ Some (numbers_for g v)
 led_to spelling g [] v some leads is = absurd (omega arith)
 led_to spelling g (x ∷ xs) v some leads is =
     led_told spelling leads.0 x xs leads.1 leads.2.1

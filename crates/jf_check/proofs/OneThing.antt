@@ -4,7 +4,7 @@ use Rattle.std.proofs.Common.{◌≡◌, ℕ, List, [], ◌∷◌, length, ap, a
 use Rattle.jf_disk.specs.Disk.{Files}
 use Rattle.jf_disk.specs.Missing.{files_found}
 use Rattle.jf_model.specs.Nodes.{kept_nodes}
-use Rattle.jf_frame.specs.Framed.{FramedRecord}
+use Rattle.jf_frame.specs.Framed.{LogRecord}
 use Rattle.jf_pair.proofs.FileLaws.{holds_one}
 use Rattle.jf_codec.specs.declared.format.Format.{Format}
 use Rattle.jf_codec.specs.declared.format.Format.TheVariants as format
@@ -37,7 +37,7 @@ same_size fmt s t sound_s read_s sound_t read_t same =
     omega (arith, file_long 1 s, file_long 1 t, nodes, roots)
 
 module _ (leads_to_one : ItemsLeadToOne) (known : SpelledIsRead) where
-  counted_once : (rs : List FramedRecord) (s t : Standing) → LeadToCounted rs s → LeadToCounted rs t → IsSound format.Two s → IsReadStanding s → IsSound format.Two t → IsReadStanding t → length (checkpoint_file 1 s) ≡ length (checkpoint_file 1 t)
+  counted_once : (rs : List LogRecord) (s t : Standing) → LeadToCounted rs s → LeadToCounted rs t → IsSound format.Two s → IsReadStanding s → IsSound format.Two t → IsReadStanding t → length (checkpoint_file 1 s) ≡ length (checkpoint_file 1 t)
   counted_once [] s t a b sound_s read_s sound_t read_t = ap (λ (u : Standing). length (checkpoint_file 1 u)) (a ∙ sym b)
   counted_once (x ∷ xs) s t a b sound_s read_s sound_t read_t =
       let same = one_format b.0 a.0 (sym b.1.0 ∙ a.1.0) in

@@ -4,7 +4,7 @@ use Rattle.std.proofs.Common.{◌≡◌, ℕ, zero, suc, ◌+◌, ◌-◌, ◌�
 use Rattle.std.proofs.lemmas.List.{append-nil}
 use Rattle.std.proofs.lemmas.Bool.{and_from}
 use Rattle.jf_path.specs.Numbers.{eight_bytes}
-use Rattle.jf_frame.specs.Framed.{FramedRecord}
+use Rattle.jf_frame.specs.Framed.{LogRecord}
 use Rattle.jf_frame.specs.Framing.{number_of}
 use Rattle.jf_pair.specs.Files.{is_checkpoint}
 use Rattle.jf_codec.specs.declared.format.Format.{Format}
@@ -42,13 +42,13 @@ checkpoint_four fmt g b f h roots nodes kind payload is =
     subst (λ p. HasFour p g b f h) (sym (is.payload_is ∙ four_front g b f h (flat_map (λ h. h) roots) (list_bytes (live_bytes fmt) nodes)))
     (four_numbers g b f h (flat_map (λ h. h) roots ++ list_bytes (live_bytes fmt) nodes) (omega arith) (omega arith) (omega arith) (omega arith))
 
-four_told : (x : FramedRecord) (g b f h : ℕ) → is_checkpoint x.kind ≡ true → HasFour x.payload g b f h → checkpoint_numbers x ≡ Some (record { generation = g; base = b; floor = f; head = h })
+four_told : (x : LogRecord) (g b f h : ℕ) → is_checkpoint x.kind ≡ true → HasFour x.payload g b f h → checkpoint_numbers x ≡ Some (record { generation = g; base = b; floor = f; head = h })
 four_told x g b f h kind has =
     ap (λ t. let o : Option SideNumbers = cond t (Some (record { generation = number_of x.payload; base = number_of (drop 8 x.payload); floor = number_of (drop 16 x.payload); head = number_of (drop 24 x.payload) })) None in o)
     (and_from (is_checkpoint x.kind) (nat_le 32 (length x.payload)) kind (le-leb 32 (length x.payload) has.long))
     ∙ (λ i. Some (record { generation = has.one i; base = has.two i; floor = has.three i; head = has.four i }))
 
-first_told : (fmt : Format) (x : FramedRecord) (r : Record) (s : Standing) → IsSpelling fmt r x.kind x.payload → GivesStanding fmt r s → checkpoint_numbers x ≡ Some (numbers_at (number_of x.payload) s)
+first_told : (fmt : Format) (x : LogRecord) (r : Record) (s : Standing) → IsSpelling fmt r x.kind x.payload → GivesStanding fmt r s → checkpoint_numbers x ≡ Some (numbers_at (number_of x.payload) s)
 first_told fmt x («record».Floor floor) s is gives = absurd gives
 first_told fmt x («record».NodeCommit c) s is gives = absurd gives
 first_told fmt x («record».Checkpoint g b f h roots nodes) s is gives =
@@ -58,7 +58,7 @@ first_told fmt x («record».Checkpoint g b f h roots nodes) s is gives =
 first_told fmt x («record».Group cs) s is gives = absurd gives
 
 -- ---- later records
-told_by : (n : SideNumbers) (y : FramedRecord) (kind number : ℕ) → y.kind ≡ kind → 8 ≤ length y.payload → number_of y.payload ≡ number → numbers_after n y ≡ numbers_by kind number n
+told_by : (n : SideNumbers) (y : LogRecord) (kind number : ℕ) → y.kind ≡ kind → 8 ≤ length y.payload → number_of y.payload ≡ number → numbers_after n y ≡ numbers_by kind number n
 told_by n y kind number is long tells =
     ap (λ t. cond t n (numbers_by y.kind (number_of y.payload) n)) (le-ltb (length y.payload) 8 long) ∙ ap₂ (λ k m. numbers_by k m n) is tells
 
@@ -93,7 +93,7 @@ moved_told g s s' n m last =
     let h : min (s.head + n) (2 ^ 64 - 1) ≡ s'.head = omega (arith, m.head) in
     λ i. record { generation = g; base = (sym m.base) i; floor = (sym m.floor) i; head = h i }
 
-later_told : (fmt : Format) (g : ℕ) (s s' : Standing) (y : FramedRecord) (r : Record) → IsSpelling fmt r y.kind y.payload → TakesRecord fmt s r s' → numbers_after (numbers_at g s) y ≡ numbers_at g s'
+later_told : (fmt : Format) (g : ℕ) (s s' : Standing) (y : LogRecord) (r : Record) → IsSpelling fmt r y.kind y.payload → TakesRecord fmt s r s' → numbers_after (numbers_at g s) y ≡ numbers_at g s'
 unfolding record_bytes
 later_told fmt g s s' y («record».Floor floor) is takes =
     let e : eight_bytes floor ++ [] ≡ y.payload = append-nil (eight_bytes floor) ∙ sym is.payload_is in
@@ -112,20 +112,20 @@ later_told fmt g s s' y («record».Group (c ∷ cs)) is takes =
 
 -- ---- all records
 module _ (spelling : SpelledIsSpelling) (fmt : Format) where
-  through_told : (g : ℕ) (s : Standing) (ys : List FramedRecord) (s' : Standing) → Leads fmt s (items fmt ys) s' → numbers_through (numbers_at g s) ys ≡ numbers_at g s'
+  through_told : (g : ℕ) (s : Standing) (ys : List LogRecord) (s' : Standing) → Leads fmt s (items fmt ys) s' → numbers_through (numbers_at g s) ys ≡ numbers_at g s'
   through_told g s [] s' leads = ap (numbers_at g) (sym leads)
   through_told g s (y ∷ ys) s' leads =
       let f = leads.1 in
       ap (λ n. numbers_through n ys) (later_told fmt g s leads.0 y f.0 ((spelling fmt y.kind y.payload f.0).0 f.1) f.2) ∙ through_told g leads.0 ys s' leads.2
 
   -- records that lead to a standing tell its numbers
-  pub led_told : (x : FramedRecord) (xs : List FramedRecord) (s : Standing) → AllLead fmt (item fmt x) (items fmt xs) s → numbers_in (x ∷ xs) ≡ Some (numbers_at (number_of x.payload) s)
+  pub led_told : (x : LogRecord) (xs : List LogRecord) (s : Standing) → AllLead fmt (item fmt x) (items fmt xs) s → numbers_in (x ∷ xs) ≡ Some (numbers_at (number_of x.payload) s)
   led_told x xs s leads =
       let b = leads.1 in
       ap (option_map (λ n. numbers_through n xs)) (first_told fmt x b.0 leads.0 ((spelling fmt x.kind x.payload b.0).0 b.1) b.2) ∙ ap Some (through_told (number_of x.payload) leads.0 xs s leads.2)
 
 -- one record after another
-pub go_through : (n : SideNumbers) (rs : List FramedRecord) (i : ℕ) (r : FramedRecord) → slice_get rs i ≡ Some r → numbers_through n (drop i rs) ≡ numbers_through (numbers_after n r) (drop (i + 1) rs)
+pub go_through : (n : SideNumbers) (rs : List LogRecord) (i : ℕ) (r : LogRecord) → slice_get rs i ≡ Some r → numbers_through n (drop i rs) ≡ numbers_through (numbers_after n r) (drop (i + 1) rs)
 go_through n [] i r some = absurd (cc)
 go_through n (x ∷ rs) zero r some = let e : x ≡ r = (let e : Some x ≡ Some r = some in cc) in ap (λ y. numbers_through (numbers_after n y) rs) e
 go_through n (x ∷ rs) (suc i) r some = let e : suc i + 1 ≡ suc (i + 1) = omega arith in rw e (go_through n rs i r some)

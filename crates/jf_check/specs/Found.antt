@@ -1,7 +1,7 @@
 -- What is found of live records, before both files are judged.
 use Rattle.std.specs.Prelude.{◌≡◌, ℕ, List, length, Option, Some}
 use Rattle.jf_disk.specs.declared.side.Side.{Side}
-use Rattle.jf_frame.specs.Framed.{FramedRecord}
+use Rattle.jf_frame.specs.Framed.{LogRecord}
 use Rattle.jf_codec.specs.declared.format.Format.{Format}
 use Rattle.jf_codec.specs.declared.format.Format.TheVariants as format
 use Rattle.jf_model.specs.Nodes.{kept_nodes}
@@ -27,6 +27,6 @@ IsSizedStore live s (store_check.Damaged where_ at) = ⊥
 IsSizedStore live s (store_check.Sound found kept checkpoint) = (found ≡ live) × IsSized s kept checkpoint
 
 -- live records of this side: the first one that isn't sound, or the standing that they lead to
-abbrev pub IsLiveCheck : Side → List FramedRecord → StoreCheck → Type 0
+abbrev pub IsLiveCheck : Side → List LogRecord → StoreCheck → Type 0
 IsLiveCheck where_ rs (store_check.Damaged found at) = (found ≡ where_) × IsUnsoundAt rs at
 IsLiveCheck where_ rs (store_check.Sound live kept checkpoint) = (live ≡ Some where_) × (s : Standing) × (fmt : Format) × LeadToStanding rs fmt (standing_in fmt s) × IsSized s kept checkpoint

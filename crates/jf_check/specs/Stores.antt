@@ -5,7 +5,7 @@ use Rattle.jf_disk.specs.Missing.{files_found}
 use Rattle.jf_disk.specs.declared.side.Side.{Side}
 use Rattle.jf_model.specs.Versions.{Versions}
 use Rattle.jf_model.specs.Nodes.{kept_nodes}
-use Rattle.jf_frame.specs.Framed.{FramedRecord}
+use Rattle.jf_frame.specs.Framed.{LogRecord}
 use Rattle.jf_frame.specs.Framing.{records, frame}
 use Rattle.jf_pair.specs.Files.{HoldsLive, live_side}
 use Rattle.jf_codec.specs.declared.format.Format.{Format}
@@ -24,7 +24,7 @@ use Rattle.jf_check.specs.Sides.{side_shown}
 
 -- ---- the live side
 -- the live one of two sides with these records; none if neither has a record
-abbrev pub live_among : List FramedRecord → List FramedRecord → Option Side
+abbrev pub live_among : List LogRecord → List LogRecord → Option Side
 live_among [] [] = None
 live_among [] (b ∷ right) = Some (live_side [] (b ∷ right))
 live_among (a ∷ left) right = Some (live_side (a ∷ left) right)
@@ -36,13 +36,13 @@ live_found files = live_among (records_of_side (records files.a)) (records_of_si
 -- ---- a new checkpoint
 -- records lead to a standing with counts: no records to that of a new store; others, if they lead to what their format keeps
 -- of it
-abbrev pub LeadToCounted : List FramedRecord → Standing → Type 0
+abbrev pub LeadToCounted : List LogRecord → Standing → Type 0
 LeadToCounted [] s = s ≡ new_standing format.Two
 LeadToCounted (x ∷ xs) s = (fmt : Format) × LeadToStanding (x ∷ xs) fmt (standing_in fmt s)
 
 -- files hold a standing with counts: their live records lead to it
 pub record HoldsCounted (files : Files) (s : Standing) : Type 0 where
-  pub live : List FramedRecord
+  pub live : List LogRecord
   pub held : HoldsLive files live
   pub leads : LeadToCounted live s
   pub sound : IsSound format.Two s

@@ -9,7 +9,7 @@ use Rattle.jf_disk.specs.Crashes.{LeavesFiles, LeavesNow, KeepsOther, opposite}
 use Rattle.jf_disk.specs.declared.side.Side.{Side}
 use Rattle.jf_disk.specs.declared.side.Side.TheVariants as side
 use Rattle.jf_disk.proofs.CrashLaws.{told_same, told_before, goes_weaker, goes_extends, by_now}
-use Rattle.jf_frame.specs.Framed.{FramedRecord}
+use Rattle.jf_frame.specs.Framed.{LogRecord}
 use Rattle.jf_frame.specs.Framing.{records, IsFrame}
 use Rattle.jf_frame.specs.Logs.{Log}
 use Rattle.jf_pair.specs.declared.fault.PairFault.{PairFault}
@@ -79,7 +79,7 @@ first_bytes stands m g was is slice b across frame written other =
     λ i. record { a = own i; b = (kept i).bytes }
 
 -- ---- the generation that is read
-first_bounds : CheckpointsAreNumbered → (fmt : Format) (x : FramedRecord) (xs : List FramedRecord) (r : Record) (s : Standing) → GivesStanding fmt r s → IsSpelling fmt r x.kind x.payload → (1 ≤ generation_in (x ∷ xs)) × (generation_in (x ∷ xs) ≤ 2 ^ 64 - 2)
+first_bounds : CheckpointsAreNumbered → (fmt : Format) (x : LogRecord) (xs : List LogRecord) (r : Record) (s : Standing) → GivesStanding fmt r s → IsSpelling fmt r x.kind x.payload → (1 ≤ generation_in (x ∷ xs)) × (generation_in (x ∷ xs) ≤ 2 ^ 64 - 2)
 first_bounds numbered fmt x xs («record».Floor floor) s gives is = absurd gives
 first_bounds numbered fmt x xs («record».NodeCommit c) s gives is = absurd gives
 first_bounds numbered fmt x xs («record».Checkpoint generation base floor head roots nodes) s gives is =
@@ -88,7 +88,7 @@ first_bounds numbered fmt x xs («record».Checkpoint generation base floor head
 first_bounds numbered fmt x xs («record».Group cs) s gives is = absurd gives
 
 -- the generation of records that lead to a standing is from 1 to 2^64 - 2
-pub generation-bounds : SpelledIsSpelling → CheckpointsAreNumbered → (rs : List FramedRecord) (fmt : Format) (s : Standing) → LeadToStanding rs fmt s → (1 ≤ generation_in rs) × (generation_in rs ≤ 2 ^ 64 - 2)
+pub generation-bounds : SpelledIsSpelling → CheckpointsAreNumbered → (rs : List LogRecord) (fmt : Format) (s : Standing) → LeadToStanding rs fmt s → (1 ≤ generation_in rs) × (generation_in rs ≤ 2 ^ 64 - 2)
 generation-bounds spelling numbered [] fmt s leads = absurd leads
 generation-bounds spelling numbered (x ∷ xs) fmt s leads =
     let begins = leads.1.1 in
@@ -97,7 +97,7 @@ generation-bounds spelling numbered (x ∷ xs) fmt s leads =
 -- ---- files with records
 module _ (formats : FormatsAreSound) (have : StandingsHaveVersions) (number : GenerationIsLive) (opens : OpensByRecords)
     (o n : Option History) (m f m' f' : ℕ) (p : Pair) (fmt : Format) (s : Standing) (sound : IsSound format.Two s) (unknown : o ≡ None → n ≡ None) where
-  pub read_kept : (rs : List FramedRecord) → LeadToStanding rs fmt (standing_in fmt s) → p.is_live ≡ true → p.failed ≡ false → ((h : History) → o ≡ Some h → (g : History) × (n ≡ Some g) × (LeavesFiles h g × IsInStep p rs g.now)) → KeepsStandingFiles n p fmt s (generation_in rs)
+  pub read_kept : (rs : List LogRecord) → LeadToStanding rs fmt (standing_in fmt s) → p.is_live ≡ true → p.failed ≡ false → ((h : History) → o ≡ Some h → (g : History) × (n ≡ Some g) × (LeavesFiles h g × IsInStep p rs g.now)) → KeepsStandingFiles n p fmt s (generation_in rs)
   read_kept rs leads live whole at = record {
     live = live;
     sound = whole;
@@ -108,7 +108,7 @@ module _ (formats : FormatsAreSound) (have : StandingsHaveVersions) (number : Ge
         subst (λ (h : History). HoldsStandingOf p fmt s (generation_in rs) h.now) (told_same a.0 g n a.1 told') now;
   }
 
-  pub read_opened : (rs : List FramedRecord) → LeadToStanding rs fmt (standing_in fmt s) → ((h : History) → o ≡ Some h → (g : History) × (n ≡ Some g) × (LeavesFiles h g × IsInStep p rs g.now)) → ((h : History) → o ≡ Some h → HoldsLive (reads h) rs)
+  pub read_opened : (rs : List LogRecord) → LeadToStanding rs fmt (standing_in fmt s) → ((h : History) → o ≡ Some h → (g : History) × (n ≡ Some g) × (LeavesFiles h g × IsInStep p rs g.now)) → ((h : History) → o ≡ Some h → HoldsLive (reads h) rs)
       → m ≤ m' → f' ≡ f → HasOpened (disk_view o m f) (disk_view n m' f') (versions_of s) (generation_in rs)
   read_opened [] leads at held moment calm = absurd leads
   read_opened (x ∷ xs) leads at held moment calm =
@@ -126,7 +126,7 @@ module _ (formats : FormatsAreSound) (have : StandingsHaveVersions) (number : Ge
       }
 
 -- ---- files without a record
-module _ (one : FilesStandForOne) (number : GenerationIsLive) (begins : BeginsByRecords) (o t n : Option History) (m f m' f' : ℕ) (p : Pair) (x : FramedRecord) (to : LeadTo (x ∷ []) new_store)
+module _ (one : FilesStandForOne) (number : GenerationIsLive) (begins : BeginsByRecords) (o t n : Option History) (m f m' f' : ℕ) (p : Pair) (x : LogRecord) (to : LeadTo (x ∷ []) new_store)
     (unknown : o ≡ None → n ≡ None) (moment : m ≤ m') (faults : f ≤ f')
     (left : (h : History) → o ≡ Some h → (k : History) × (t ≡ Some k) × (LeavesFiles h k × IsInStep p [] k.now))
     (stop : (k : History) → t ≡ Some k → (g : History) × (n ≡ Some g) × StopsBetween k g [] (x ∷ []))
@@ -216,7 +216,7 @@ read_refused one o n m f m' f' why unknown moment faults cause left damaged = re
 -- ---- the results of an opening
 -- what is found if the records of a log are replayed
 module _ (formats : FormatsAreSound) (have : StandingsHaveVersions) (number : GenerationIsLive) (opens : OpensByRecords)
-    (o n : Option History) (m f m' f' : ℕ) (p : Pair) (rs : List FramedRecord) (unknown : o ≡ None → n ≡ None) (moment : m ≤ m') (faults : f ≤ f')
+    (o n : Option History) (m f m' f' : ℕ) (p : Pair) (rs : List LogRecord) (unknown : o ≡ None → n ≡ None) (moment : m ≤ m') (faults : f ≤ f')
     (at : (h : History) → o ≡ Some h → (g : History) × (n ≡ Some g) × (LeavesFiles h g × IsInStep p rs g.now)) (held : (h : History) → o ≡ Some h → HoldsLive (reads h) rs) where
   pub replayed_opened : f' ≡ f → (r : Result Found OpenFault) → IfOk r (λ x. LeadToStanding rs x.format (standing_in x.format x.directory)) → IfOk r (λ x. IsSound format.Two x.directory) → IfOk r (λ x. x.generation ≡ generation_in rs)
       → IfOk r (λ x. HasOpened (disk_view o m f) (disk_view n m' f') (versions_of x.directory) x.generation)
@@ -247,7 +247,7 @@ module _ (formats : FormatsAreSound) (have : StandingsHaveVersions) (number : Ge
       inr (rs, k, found.0 ∙ sym (in_step_side p rs a.0 k.a_records k.b_records a.2.1 live (subst (λ (f : Files). records f.a ≡ Ok k.a_records) (sym a.2.0.same) k.a_held) (subst (λ (f : Files). records f.b ≡ Ok k.b_records) (sym a.2.0.same) k.b_held)), found.1))
 
 -- the bounds of a generation that is found
-pub replayed_numbered : SpelledIsSpelling → CheckpointsAreNumbered → (rs : List FramedRecord) (r : Result Found OpenFault) → IfOk r (λ x. LeadToStanding rs x.format (standing_in x.format x.directory)) → IfOk r (λ x. x.generation ≡ generation_in rs)
+pub replayed_numbered : SpelledIsSpelling → CheckpointsAreNumbered → (rs : List LogRecord) (r : Result Found OpenFault) → IfOk r (λ x. LeadToStanding rs x.format (standing_in x.format x.directory)) → IfOk r (λ x. x.generation ≡ generation_in rs)
     → IfOk r (λ x. (1 ≤ x.generation) × (x.generation ≤ 2 ^ 64 - 2))
 replayed_numbered spelling numbered rs (Ok x) led is = subst (λ n. (1 ≤ n) × (n ≤ 2 ^ 64 - 2)) (sym is) (generation-bounds spelling numbered rs x.format (standing_in x.format x.directory) led)
 replayed_numbered spelling numbered rs (Err e) led is = tt
@@ -267,7 +267,7 @@ module _ (one : FilesStandForOne) (place : DamageHasOnePlace) (number : Generati
     (left : (h : History) → o ≡ Some h → (k : History) × (t ≡ Some k) × (LeavesFiles h k × IsInStep p [] k.now))
     (stop : (k : History) → t ≡ Some k → (g : History) × (n ≡ Some g) × StopsBetween k g [] (checkpoint_at_start 1 (new_standing format.Two) ∷ []))
     (readable : (g : History) → n ≡ Some g → IsImage g.now (reads g)) where
-  abbrev y : FramedRecord
+  abbrev y : LogRecord
   y = checkpoint_at_start 1 (new_standing format.Two)
 
   one_generation : IsRecord format.Two (checkpoint_of 1 (new_standing format.Two)) → generation_in (y ∷ []) ≡ 1
@@ -349,5 +349,5 @@ of_pair_damage (pair_fault.Damaged w n) where_ at e = cc
 of_pair_damage pair_fault.Memory where_ at e = absurd (cc)
 
 -- the records of the live log are those that a disk is in step with
-pub live_in_step : (n : Option History) (p : Pair) (l : Option Log) (rs : List FramedRecord) → log_records l ≡ rs → ((g : History) × (n ≡ Some g) × IsInStep p (log_records l) g.now) → (g : History) × (n ≡ Some g) × IsInStep p rs g.now
-live_in_step n p l rs is a = (a.0, a.1, subst (λ (xs : List FramedRecord). IsInStep p xs a.0.now) is a.2)
+pub live_in_step : (n : Option History) (p : Pair) (l : Option Log) (rs : List LogRecord) → log_records l ≡ rs → ((g : History) × (n ≡ Some g) × IsInStep p (log_records l) g.now) → (g : History) × (n ≡ Some g) × IsInStep p rs g.now
+live_in_step n p l rs is a = (a.0, a.1, subst (λ (xs : List LogRecord). IsInStep p xs a.0.now) is a.2)

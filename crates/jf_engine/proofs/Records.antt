@@ -7,7 +7,7 @@ use Rattle.std.proofs.lemmas.List.Sorted.{Contains-permutation, IsPermutation-sy
 use Rattle.jf_hash.specs.Maps.{Batch, IsBatch}
 use Rattle.jf_model.specs.Batches.{key_count}
 use Rattle.jf_model.specs.Versions.{land_all, versions_from_floor}
-use Rattle.jf_frame.specs.Framed.{FramedRecord}
+use Rattle.jf_frame.specs.Framed.{LogRecord}
 use Rattle.jf_frame.specs.Logs.{appended_record}
 use Rattle.jf_frame.specs.Framing.{IsFrame, number_of}
 use Rattle.jf_frame.proofs.FramingLaws.{frame_is_of_one}
@@ -48,11 +48,11 @@ kept_spelling : KeptIsSpelled → WrittenInBoth → (fmt : Format) (offset : ℕ
 kept_spelling kept both fmt offset r written = record { sound = both fmt r written; kind_is = sym (kept fmt r).1; payload_is = sym (kept fmt r).0 }
 
 -- the record that an engine appends to a file of a format
-abbrev pub appended : Format → ℕ → Record → FramedRecord
+abbrev pub appended : Format → ℕ → Record → LogRecord
 appended fmt offset r = appended_record offset (kind_of fmt r) (record_bytes fmt r)
 
 -- the record of landings leads from what the format keeps of a standing to what it keeps of the standing after them
-pub landings_lead : LandingsFollow → FormatsAreSound → FormatsGroup → KeptIsSpelled → WrittenInBoth → (rs : List FramedRecord) (fmt : Format) (offset : ℕ) (s : Standing) (bs : List Batch)
+pub landings_lead : LandingsFollow → FormatsAreSound → FormatsGroup → KeptIsSpelled → WrittenInBoth → (rs : List LogRecord) (fmt : Format) (offset : ℕ) (s : Standing) (bs : List Batch)
     → LeadToStanding rs fmt (standing_in fmt s) → IsReadStanding s → IsSound format.Two s → AllByRecursion IsBatch bs → len (head_map s) + key_count bs ≤ 2 ^ 63 → s.head + length bs < not_stale
     → IsRecord format.Two (landed_record (landings_of format.Two s bs))
     → LeadToStanding (rs ++ appended fmt offset (landed_record (landings_of format.Two s bs)) ∷ []) fmt (standing_in fmt (all_landed format.Two s bs))
@@ -69,7 +69,7 @@ landings_lead law sound_in group kept both rs fmt offset s bs leads read sound b
     )
 
 -- ---- floors
-pub floors_lead : FloorsFollow → FormatsAreSound → FormatsFollow → (rs : List FramedRecord) (fmt : Format) (offset : ℕ) (s : Standing) (floor : ℕ) → LeadToStanding rs fmt (standing_in fmt s) → IsSound format.Two s → s.floor ≤ floor → floor ≤ s.head
+pub floors_lead : FloorsFollow → FormatsAreSound → FormatsFollow → (rs : List LogRecord) (fmt : Format) (offset : ℕ) (s : Standing) (floor : ℕ) → LeadToStanding rs fmt (standing_in fmt s) → IsSound format.Two s → s.floor ≤ floor → floor ≤ s.head
     → LeadToStanding (rs ++ appended fmt offset («record».Floor floor) ∷ []) fmt (standing_in fmt (with_floor floor s))
     × (versions_of (standing_in fmt (with_floor floor s)) ≡ versions_from_floor floor (versions_of (standing_in fmt s)))
 floors_lead law sound_in follow rs fmt offset s floor leads sound low high =
@@ -132,6 +132,6 @@ pub frame_of_new : (s : Standing) (bytes slice : List ℕ) → s ≡ new_standin
 frame_of_new s bytes slice new same is = subst (λ (xs : List ℕ). IsFrame xs 5 (record_bytes format.Two (checkpoint_of 1 (new_standing format.Two)))) (sym same) (subst (λ (t : Standing). IsFrame bytes 5 (record_bytes format.Two (checkpoint_of 1 t))) new is)
 
 -- live records have a lesser generation than the next one
-pub older-generation : (rs : List FramedRecord) (fmt : Format) (s : Standing) (n g : ℕ) → LeadToStanding rs fmt s → generation_in rs ≡ n → g ≡ n + 1 → generation_of rs < g
+pub older-generation : (rs : List LogRecord) (fmt : Format) (s : Standing) (n g : ℕ) → LeadToStanding rs fmt s → generation_in rs ≡ n → g ≡ n + 1 → generation_of rs < g
 older-generation [] fmt s n g leads is next = absurd leads
 older-generation (x ∷ xs) fmt s n g leads is next = omega (arith, is, next)

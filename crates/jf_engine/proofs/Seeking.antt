@@ -4,7 +4,7 @@ use Rattle.std.proofs.Common.{◌≡◌, ◌∙◌, refl, sym, subst, ℕ, ◌�
 use Rattle.jf_disk.specs.Disk.{History, Files, reads}
 use Rattle.jf_disk.specs.Crashes.{LeavesFiles}
 use Rattle.jf_disk.specs.declared.side.Side.TheVariants as side
-use Rattle.jf_frame.specs.Framed.{FramedRecord}
+use Rattle.jf_frame.specs.Framed.{LogRecord}
 use Rattle.jf_pair.specs.Files.{HoldsLive}
 use Rattle.jf_pair.specs.Pairs.{Pair, IsInStep}
 use Rattle.jf_pair.proofs.PairLaws.{in_step_holds}
@@ -26,13 +26,13 @@ use Rattle.jf_engine.specs.declared.opening.Sought.TheVariants as sought
 use Rattle.jf_engine.proofs.Opened.{replayed_opened, replayed_kept, replayed_numbered}
 
 -- no records lead to no standing
-leads_by_a_record : (rs : List FramedRecord) (fmt : Format) (s : Standing) → LeadToStanding rs fmt s → rs ≡ [] → ⊥
+leads_by_a_record : (rs : List LogRecord) (fmt : Format) (s : Standing) → LeadToStanding rs fmt s → rs ≡ [] → ⊥
 leads_by_a_record [] fmt s leads e = absurd leads
 leads_by_a_record (x ∷ xs) fmt s leads e = absurd (cc)
 
 -- what is found if the records of a log are replayed
 module _ (formats : FormatsAreSound) (have : StandingsHaveVersions) (number : GenerationIsLive) (opens : OpensByRecords) (spelling : SpelledIsSpelling) (numbered : CheckpointsAreNumbered)
-    (o n : Option History) (m f m' f' : ℕ) (p : Pair) (rs : List FramedRecord) (unknown : o ≡ None → n ≡ None) (moment : m ≤ m') (faults : f ≤ f')
+    (o n : Option History) (m f m' f' : ℕ) (p : Pair) (rs : List LogRecord) (unknown : o ≡ None → n ≡ None) (moment : m ≤ m') (faults : f ≤ f')
     (at : (h : History) → o ≡ Some h → (g : History) × (n ≡ Some g) × (LeavesFiles h g × IsInStep p rs g.now)) (held : (h : History) → o ≡ Some h → HoldsLive (reads h) rs) where
   pub sought_store : f' ≡ f → p.is_live ≡ true → p.failed ≡ false → (x : Found) → x.pair ≡ p → LeadToStanding rs x.format (standing_in x.format x.directory) → IsSound format.Two x.directory → x.generation ≡ generation_in rs
       → HasSoughtStore (disk_view o m f) (disk_view n m' f') x

@@ -2,7 +2,7 @@
 use Rattle.std.specs.Prelude.{ℕ, List, [], ◌∷◌, ◌≡◌, Option, Some, true, false}
 use Rattle.jf_hash.specs.Maps.{map_of_entries}
 use Rattle.jf_disk.specs.Disk.{DiskState, Files, History}
-use Rattle.jf_frame.specs.Framed.{FramedRecord}
+use Rattle.jf_frame.specs.Framed.{LogRecord}
 use Rattle.jf_frame.specs.Logs.{appended_record}
 use Rattle.jf_pair.specs.Files.{HoldsLive}
 use Rattle.jf_pair.specs.Pairs.{Pair, IsInStep}
@@ -16,7 +16,7 @@ use Rattle.jf_files.specs.Files.{LeadToStanding, generation_in}
 
 -- a disk is in step with a pair whose live records, in this format and generation, lead to this standing
 pub record HoldsStandingOf (p : Pair) (fmt : Format) (s : Standing) (g : ℕ) (now : DiskState) : Type 0 where
-  pub held : List FramedRecord
+  pub held : List LogRecord
   pub in_step : IsInStep p held now
   pub leads : LeadToStanding held fmt (standing_in fmt s)
   pub numbered : generation_in held ≡ g
@@ -28,7 +28,7 @@ pub record KeepsStandingFiles (history : Option History) (p : Pair) (fmt : Forma
   pub holds : (h : History) → history ≡ Some h → HoldsStandingOf p fmt s g h.now
 
 -- the checkpoint of a standing in format 2, as the first record of its file
-abbrev pub checkpoint_at_start : ℕ → Standing → FramedRecord
+abbrev pub checkpoint_at_start : ℕ → Standing → LogRecord
 checkpoint_at_start g s = appended_record 0 (checkpoint_kind format.Two) (record_bytes format.Two (checkpoint_of g s))
 
 -- two files hold one live record: the checkpoint, in a generation, of one version with these entries, whose nodes are all

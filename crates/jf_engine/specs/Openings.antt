@@ -8,7 +8,7 @@ use Rattle.jf_disk.specs.Crashes.{LeavesFiles, LeavesNow}
 use Rattle.jf_disk.specs.Moments.{ExtendsHistory}
 use Rattle.jf_disk.specs.declared.disk.Disk as disk
 use Rattle.jf_disk.specs.declared.side.Side.{Side}
-use Rattle.jf_frame.specs.Framed.{FramedRecord}
+use Rattle.jf_frame.specs.Framed.{LogRecord}
 use Rattle.jf_pair.specs.Files.{HoldsLive}
 use Rattle.jf_files.specs.Files.{StandsFor, IsDamagedAt, generation}
 use Rattle.jf_files.specs.Steps.{Opens, StopsWell, Succeeds, LiveAfter, IsCalm}
@@ -26,7 +26,7 @@ pub record KeepsVersions (old new : History) : Type 0 where
   pub extends : ExtendsHistory old new
   pub stands : (v : Versions) → StandsFor (reads old) v → StandsFor (reads new) v
   pub stops : (v : Versions) → IsCalm old → StandsFor (reads old) v → StopsWell Opens old new v
-  pub recorded : (x : FramedRecord) (xs : List FramedRecord) → HoldsLive (reads old) (x ∷ xs) → LeavesFiles old new
+  pub recorded : (x : LogRecord) (xs : List LogRecord) → HoldsLive (reads old) (x ∷ xs) → LeavesFiles old new
 
 -- files of which side A holds the checkpoint of a new store, and side B is as it was
 abbrev pub with_new_store : Files → Files
@@ -54,7 +54,7 @@ pub record HasOpened (old new : DiskView) (v : Versions) (n : ℕ) : Type 0 wher
   pub found : ForSome old.history (λ h. StandsFor (reads h) v × (generation (reads h) ≡ n))
   pub disk : OnHistories old.history new.history KeepsVersions
   pub settled : OnHistories old.history new.history (λ h g. IsSettledOn g v n)
-  pub live : OnHistories old.history new.history (λ h g. (rs : List FramedRecord) → HoldsLive (reads h) rs → (rs' : List FramedRecord) × HoldsLive (reads g) rs' × LiveAfter Opens rs rs')
+  pub live : OnHistories old.history new.history (λ h g. (rs : List LogRecord) → HoldsLive (reads h) rs → (rs' : List LogRecord) × HoldsLive (reads g) rs' × LiveAfter Opens rs rs')
   pub begun : OnHistories old.history new.history (λ h g. HoldsLive (reads h) [] → reads g ≡ with_new_store (reads h))
   pub succeeds : OnHistories old.history new.history (λ h g. LeavesNow h (λ f. StandsFor f v) → Succeeds Opens h g v)
   pub unknown : old.history ≡ None → new.history ≡ None

@@ -12,7 +12,7 @@ use Rattle.jf_disk.specs.Disk.{Files, History, reads}
 use Rattle.jf_disk.specs.declared.side.Side.{Side}
 use Rattle.jf_disk.specs.Crashes.{LeavesNow}
 use Rattle.jf_disk.specs.declared.side.Side.TheVariants as side
-use Rattle.jf_frame.specs.Framed.{FramedRecord}
+use Rattle.jf_frame.specs.Framed.{LogRecord}
 use Rattle.jf_frame.specs.Framing.{records}
 use Rattle.jf_pair.specs.Files.{is_checkpoint, is_begun, live_side, records_of, HoldsLive, live_records, outer_damage}
 use Rattle.jf_pair.proofs.FileLaws.{same_ok, holds_one, holds_undamaged, undamaged_holds}
@@ -52,16 +52,16 @@ read_if P None h = tt
 read_if P (Some r) h = h r refl
 
 module _ (known : SpelledIsRead) (fmt : Format) where
-  all_read : (xs : List FramedRecord) → AllByRecursion (λ (y : LeadingItem). IfSome y.1 IsReadRecord) (items fmt xs)
+  all_read : (xs : List LogRecord) → AllByRecursion (λ (y : LeadingItem). IfSome y.1 IsReadRecord) (items fmt xs)
   all_read [] = tt
   all_read (x ∷ xs) = (read_if IsReadRecord (spelled_record fmt x.kind x.payload) (λ r is. (known fmt x.kind x.payload r is).1), all_read xs)
 
-  pub are_read : (x : FramedRecord) (xs : List FramedRecord) → AreRead (item fmt x) (items fmt xs)
+  pub are_read : (x : LogRecord) (xs : List LogRecord) → AreRead (item fmt x) (items fmt xs)
   are_read x xs = (read_if IsReadFirst (spelled_record fmt x.kind x.payload) (λ r is. (known fmt x.kind x.payload r is).0), all_read xs)
 
 -- ---- records
 module _ (known : SpelledIsRead) where
-  leads_or_fails : ItemsAreJudged → (xs : List FramedRecord) → is_begun xs ≡ true → ((v : Versions) × LeadTo xs v) ⊎ ((at : ℕ) × IsUnsoundAt xs at)
+  leads_or_fails : ItemsAreJudged → (xs : List LogRecord) → is_begun xs ≡ true → ((v : Versions) × LeadTo xs v) ⊎ ((at : ℕ) × IsUnsoundAt xs at)
   leads_or_fails law [] begun = inl (new_store, refl)
   leads_or_fails law (x ∷ xs) begun =
       let f = (has_format x.kind).0 (first_so _ _ begun) in
@@ -70,24 +70,24 @@ module _ (known : SpelledIsRead) where
         | inr p ↦ inr (p.0, (f.0, f.1, p.1))
       ]
 
-  leads_once : ItemsLeadToOne → (xs : List FramedRecord) (v w : Versions) → LeadTo xs v → LeadTo xs w → v ≡ w
+  leads_once : ItemsLeadToOne → (xs : List LogRecord) (v w : Versions) → LeadTo xs v → LeadTo xs w → v ≡ w
   leads_once law [] v w a b = a ∙ sym b
   leads_once law (x ∷ xs) v w a b =
       let same = one_format b.0 a.0 (sym b.2.0 ∙ a.2.0) in
       let moved = subst (λ fmt. AllLead fmt (item fmt x) (items fmt xs) b.1) same b.2.1 in
       a.3 ∙ ap versions_of (law a.0 (item a.0 x) (items a.0 xs) a.1 b.1 (are_read known a.0 x xs) a.2.1 moved) ∙ sym b.3
 
-  leads_sound : ItemsLeadToSound → (xs : List FramedRecord) (v : Versions) → LeadTo xs v → IsVersions v
+  leads_sound : ItemsLeadToSound → (xs : List LogRecord) (v : Versions) → LeadTo xs v → IsVersions v
   leads_sound law [] v a = subst IsVersions (sym a) new_store-IsVersions
   leads_sound law (x ∷ xs) v a = subst IsVersions (sym a.3) (law a.0 (item a.0 x) (items a.0 xs) a.1 (are_read known a.0 x xs) a.2.1).1
 
-  not_both : NeverBoth → (xs : List FramedRecord) (v : Versions) (at : ℕ) → LeadTo xs v → IsUnsoundAt xs at → ⊥
+  not_both : NeverBoth → (xs : List LogRecord) (v : Versions) (at : ℕ) → LeadTo xs v → IsUnsoundAt xs at → ⊥
   not_both law [] v at a bad = bad
   not_both law (x ∷ xs) v at a bad =
       let same = one_format bad.0 a.0 (sym bad.1 ∙ a.2.0) in
       law a.0 (item a.0 x) (items a.0 xs) a.1 at (are_read known a.0 x xs) a.2.1 (subst (λ fmt. OneFailsAt fmt (item fmt x) (items fmt xs) at) same bad.2)
 
-  fails_once : ItemsFailOnce → (xs : List FramedRecord) (at at' : ℕ) → IsUnsoundAt xs at → IsUnsoundAt xs at' → at ≡ at'
+  fails_once : ItemsFailOnce → (xs : List LogRecord) (at at' : ℕ) → IsUnsoundAt xs at → IsUnsoundAt xs at' → at ≡ at'
   fails_once law [] at at' a b = absurd a
   fails_once law (x ∷ xs) at at' a b =
       let same = one_format b.0 a.0 (sym b.1 ∙ a.1) in
@@ -95,16 +95,16 @@ module _ (known : SpelledIsRead) where
 
 -- ---- live records
 -- live records are those of an initialised side
-live_begun : (files : Files) (rs : List FramedRecord) → HoldsLive files rs → is_begun rs ≡ true
+live_begun : (files : Files) (rs : List LogRecord) → HoldsLive files rs → is_begun rs ≡ true
 live_begun files rs h =
     subst (λ xs. is_begun xs ≡ true) h.live (elim (live_side h.a_records h.b_records) as (λ s. is_begun (records_of s h.a_records h.b_records) ≡ true) [ side.A ↦ h.a_begun | side.B ↦ h.b_begun ])
 
 -- the live records of two files are on one side
-one_side : (files : Files) (rs rs' : List FramedRecord) (h : HoldsLive files rs) (k : HoldsLive files rs') → live_side h.a_records h.b_records ≡ live_side k.a_records k.b_records
+one_side : (files : Files) (rs rs' : List LogRecord) (h : HoldsLive files rs) (k : HoldsLive files rs') → live_side h.a_records h.b_records ≡ live_side k.a_records k.b_records
 one_side files rs rs' h k = ap₂ live_side (same_ok _ _ (records files.a) h.a_held k.a_held) (same_ok _ _ (records files.b) h.b_held k.b_held)
 
 -- the generation of two files is that of their live records
-pub generation_live : (files : Files) (rs : List FramedRecord) → HoldsLive files rs → generation files ≡ generation_in rs
+pub generation_live : (files : Files) (rs : List LogRecord) → HoldsLive files rs → generation files ≡ generation_in rs
 unfolding generation
 generation_live files rs h = ap₂ (λ left right. generation_in (live_records (records_of_side left) (records_of_side right))) h.a_held h.b_held ∙ ap generation_in h.live
 
@@ -119,7 +119,7 @@ pub stand_for_sound : ItemsLeadToSound → SpelledIsRead → (files : Files) (v 
 stand_for_sound law known files v a = leads_sound known law a.live v a.leads
 
 -- files that hold live records show no damage from outside
-undamaged : (files : Files) (rs : List FramedRecord) (x : Side × ℕ) → HoldsLive files rs → outer_damage files ≡ Some x → ⊥
+undamaged : (files : Files) (rs : List LogRecord) (x : Side × ℕ) → HoldsLive files rs → outer_damage files ≡ Some x → ⊥
 undamaged files rs x h some = let e = sym (holds_undamaged files rs h) ∙ some in cc
 
 pub damage_stands_for_none : NeverBoth → SpelledIsRead → (files : Files) (v : Versions) (where_ : Side) (at : ℕ) → StandsFor files v → IsDamagedAt files where_ at → ⊥

@@ -14,7 +14,7 @@ use Rattle.jf_hash.proofs.RootLaws.{root-empty}
 use Rattle.jf_hash.proofs.HashLaws.{E-IsKey}
 use Rattle.jf_model.specs.Nodes.{plain_node, Path}
 use Rattle.jf_model.proofs.NodeLaws.{nodes-empty}
-use Rattle.jf_frame.specs.Framed.{FramedRecord}
+use Rattle.jf_frame.specs.Framed.{LogRecord}
 use Rattle.jf_frame.specs.Framing.{records, records_from, size_of, payload_of, after_record, number_of, frame}
 use Rattle.jf_pair.specs.Files.{HoldsLive}
 use Rattle.jf_codec.specs.Spelling.{node_bytes}
@@ -70,7 +70,7 @@ first_sound = record {
   count = omega arith;
 }
 
-abbrev framed_first : FramedRecord
+abbrev framed_first : LogRecord
 framed_first = record { kind = 5; offset = 0; payload = new_store_payload }
 
 first_spelled : IsSpelling format.Two (checkpoint_of 1 (new_standing format.Two)) 5 new_store_payload

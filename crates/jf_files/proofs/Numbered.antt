@@ -6,7 +6,7 @@ use Rattle.std.proofs.lemmas.Nat.{from_be_bytes-to_be_bytes_8}
 use Rattle.std.specs.Int.{from_be_bytes, w64}
 use Rattle.jf_path.specs.Numbers.{eight_bytes}
 use Rattle.jf_frame.specs.Framing.{number_of}
-use Rattle.jf_frame.specs.Framed.{FramedRecord}
+use Rattle.jf_frame.specs.Framed.{LogRecord}
 use Rattle.jf_pair.specs.Files.{is_checkpoint, is_begun}
 use Rattle.jf_codec.specs.declared.format.Format.{Format}
 use Rattle.jf_codec.specs.declared.format.Format.TheVariants as format
@@ -49,7 +49,7 @@ pub is_kind : (fmt : Format) → is_checkpoint (checkpoint_kind fmt) ≡ true
 is_kind format.One = refl
 is_kind format.Two = refl
 
-pub are_numbered : (fmt : Format) (generation base floor head : ℕ) (roots : List (List ℕ)) (nodes : List NamedNode) (x : FramedRecord)
+pub are_numbered : (fmt : Format) (generation base floor head : ℕ) (roots : List (List ℕ)) (nodes : List NamedNode) (x : LogRecord)
     → IsSpelling fmt («record».Checkpoint generation base floor head roots nodes) x.kind x.payload
     → (is_begun (x ∷ []) ≡ true) × (generation_in (x ∷ []) ≡ generation)
 unfolding record_bytes

@@ -2,7 +2,7 @@
 use Rattle.std.proofs.Common.{ℕ, List, ◌≡◌, true, false, Ok, ◌∷◌, ◌++◌, [], refl, Some}
 use Rattle.jf_disk.specs.Disk.{Files}
 use Rattle.jf_disk.specs.declared.side.Side.TheVariants as side
-use Rattle.jf_frame.specs.Framed.{FramedRecord}
+use Rattle.jf_frame.specs.Framed.{LogRecord}
 use Rattle.jf_frame.specs.Framing.{records, records_from, size_of, payload_of, after_record, number_of}
 use Rattle.jf_pair.specs.Files.{HoldsLive, is_begun, are_level, live_records, outer_damage}
 use Rattle.jf_files.specs.Files.{generation}
@@ -12,17 +12,17 @@ abbrev files : List ℕ → List ℕ → Files
 files a b = record { a = a; b = b }
 
 -- two files hold these live records, of this generation
-abbrev HoldsOfGeneration : List ℕ → List ℕ → List FramedRecord → ℕ → Type 0
+abbrev HoldsOfGeneration : List ℕ → List ℕ → List LogRecord → ℕ → Type 0
 HoldsOfGeneration a b rs g = HoldsLive (files a b) rs × (generation (files a b) ≡ g)
 
-holds : (a b : List ℕ) (left right rs : List FramedRecord) (g : ℕ) → records a ≡ Ok left → records b ≡ Ok right → is_begun left ≡ true → is_begun right ≡ true → are_level left right ≡ false → live_records left right ≡ rs → generation (files a b) ≡ g → HoldsOfGeneration a b rs g
+holds : (a b : List ℕ) (left right rs : List LogRecord) (g : ℕ) → records a ≡ Ok left → records b ≡ Ok right → is_begun left ≡ true → is_begun right ≡ true → are_level left right ≡ false → live_records left right ≡ rs → generation (files a b) ≡ g → HoldsOfGeneration a b rs g
 holds a b left right rs g p q x y z live gen = (record { a_records = left; b_records = right; a_held = p; b_held = q; a_begun = x; b_begun = y; apart = z; live = live }, gen)
 
 -- the bytes of a new store's side A before its last gate
 abbrev first_open : List ℕ
 first_open = 1 ∷ 5 ∷ in_eight 90 ++ new_store_payload
 
-abbrev first : FramedRecord
+abbrev first : LogRecord
 first = record { kind = 5; offset = 0; payload = new_store_payload }
 
 first_files : HoldsOfGeneration (first_open ++ 0 ∷ []) [] (first ∷ []) 1
@@ -37,7 +37,7 @@ no_files = holds [] [] [] [] [] 1 refl refl refl refl refl refl refl
 abbrev floor_frame : List ℕ
 floor_frame = 2 ∷ in_eight 8 ++ in_eight 0 ++ 0 ∷ []
 
-abbrev floor : FramedRecord
+abbrev floor : LogRecord
 floor = record { kind = 2; offset = 100; payload = in_eight 0 }
 
 append_begun : HoldsOfGeneration (first_open ++ 0 ∷ 2 ∷ in_eight 8) [] (first ∷ []) 1
@@ -57,7 +57,7 @@ append_done = holds (first_open ++ 1 ∷ floor_frame) [] (first ∷ floor ∷ []
 abbrev checkpoint_frame : ℕ → List ℕ
 checkpoint_frame g = 5 ∷ in_eight 8 ++ in_eight g ++ 0 ∷ []
 
-abbrev checkpoint : ℕ → FramedRecord
+abbrev checkpoint : ℕ → LogRecord
 checkpoint g = record { kind = 5; offset = 0; payload = in_eight g }
 
 -- the bytes of side A before the switch

@@ -5,7 +5,7 @@ use Rattle.jf_model.specs.Versions.{Versions, imported_versions, new_store}
 use Rattle.jf_disk.specs.Disk.{History, reads, IsImage, Files}
 use Rattle.jf_disk.specs.Crashes.{LeavesNow, LeavesFiles}
 use Rattle.jf_disk.proofs.CrashLaws.{goes_weaker, goes_further, goes_now}
-use Rattle.jf_frame.specs.Framed.{FramedRecord}
+use Rattle.jf_frame.specs.Framed.{LogRecord}
 use Rattle.jf_pair.specs.Files.{HoldsLive}
 use Rattle.jf_pair.specs.Pairs.{Pair, IsInStep}
 use Rattle.jf_pair.proofs.PairLaws.{in_step_holds, in_step_leaves}
@@ -51,7 +51,7 @@ checkpoints_follow spelling law = λ fmt s generation x sound is.
     (checkpoint_leads spelling fmt (with_nodes (nodes_by_name s.nodes) s) x (checkpoint_of generation s) is p.0, p.2)
 
 -- a checkpoint alone of a sound standing leads to its versions
-alone : SpelledIsSpelling → CheckpointsGive → (fmt : Format) (s : Standing) (generation : ℕ) (x : FramedRecord) (v : Versions) → IsSound fmt s → versions_of s ≡ v → IsSpelling fmt (checkpoint_of generation s) x.kind x.payload → LeadTo (x ∷ []) v
+alone : SpelledIsSpelling → CheckpointsGive → (fmt : Format) (s : Standing) (generation : ℕ) (x : LogRecord) (v : Versions) → IsSound fmt s → versions_of s ≡ v → IsSpelling fmt (checkpoint_of generation s) x.kind x.payload → LeadTo (x ∷ []) v
 alone spelling law fmt s generation x v sound versions is =
     let p = checkpoints_follow spelling law fmt s generation x sound is in
     (fmt, with_nodes (nodes_by_name s.nodes) s, p.0, sym (p.1 ∙ versions))
@@ -78,7 +78,7 @@ stops_by_records = λ step old new v rs rs' before behind stops.
     ]) stops
 
 -- files in step with a pair represent what its records lead to, and so does what a crash leaves of them
-in_step_stands : (new : History) (v : Versions) (p : Pair) (rs : List FramedRecord) → LeadTo rs v → IsInStep p rs new.now → StandsFor (reads new) v × LeavesNow new (λ f. StandsFor f v)
+in_step_stands : (new : History) (v : Versions) (p : Pair) (rs : List LogRecord) → LeadTo rs v → IsInStep p rs new.now → StandsFor (reads new) v × LeavesNow new (λ f. StandsFor f v)
 in_step_stands new v p rs leads k = (record { live = rs; held = in_step_holds p rs new k; leads = leads }, λ f image. record { live = rs; held = in_step_leaves p rs new k f image; leads = leads })
 
 pub succeeds_by_records : SucceedsByRecords
@@ -118,7 +118,7 @@ opens_by_records = λ old new v p x xs leads calm left k.
     }
 
 -- files without a record, or with the first checkpoint of a new store, represent a new store
-either_new : (x : FramedRecord) → LeadTo (x ∷ []) new_store → (f : Files) → HoldsLive f [] ⊎ HoldsLive f (x ∷ []) → StandsFor f new_store
+either_new : (x : LogRecord) → LeadTo (x ∷ []) new_store → (f : Files) → HoldsLive f [] ⊎ HoldsLive f (x ∷ []) → StandsFor f new_store
 either_new x leads f (inl h) = record { live = []; held = h; leads = refl }
 either_new x leads f (inr h) = record { live = x ∷ []; held = h; leads = leads }
 

@@ -4,7 +4,7 @@ use Rattle.jf_model.specs.Versions.{new_store, Versions, IsVersions}
 use Rattle.jf_disk.specs.Disk.{Files, History, reads}
 use Rattle.jf_disk.specs.declared.side.Side.{Side}
 use Rattle.jf_disk.specs.Crashes.{LeavesNow}
-use Rattle.jf_frame.specs.Framed.{FramedRecord}
+use Rattle.jf_frame.specs.Framed.{LogRecord}
 use Rattle.jf_frame.specs.Framing.{records, frame}
 use Rattle.jf_pair.specs.Files.{is_checkpoint, is_begun, HoldsLive}
 use Rattle.jf_codec.specs.declared.format.Format.{Format}
@@ -28,12 +28,12 @@ CheckpointsHaveFormats = (kind : ℕ) → (is_checkpoint kind ≡ true) ↔ ((fm
 -- a record that spells a checkpoint can begin a side, and the side's generation is the checkpoint's
 abbrev pub CheckpointsAreNumbered : Type 0
 CheckpointsAreNumbered =
-    (fmt : Format) (generation base floor head : ℕ) (roots : List (List ℕ)) (nodes : List NamedNode) (x : FramedRecord) → IsSpelling fmt («record».Checkpoint generation base floor head roots nodes) x.kind x.payload
+    (fmt : Format) (generation base floor head : ℕ) (roots : List (List ℕ)) (nodes : List NamedNode) (x : LogRecord) → IsSpelling fmt («record».Checkpoint generation base floor head roots nodes) x.kind x.payload
     → (is_begun (x ∷ []) ≡ true) × (generation_in (x ∷ []) ≡ generation)
 
 -- the generation of two files is that of their live records
 abbrev pub GenerationIsLive : Type 0
-GenerationIsLive = (files : Files) (rs : List FramedRecord) → HoldsLive files rs → generation files ≡ generation_in rs
+GenerationIsLive = (files : Files) (rs : List LogRecord) → HoldsLive files rs → generation files ≡ generation_in rs
 
 -- files without records represent a new store
 abbrev pub NoRecordsAreNew : Type 0
@@ -76,7 +76,7 @@ HeldIsStoodFor = (files : Files) (fmt : Format) (s : Standing) → HoldsStanding
 -- files that hold a record and represent versions hold a standing
 abbrev pub StoodForIsHeld : Type 0
 StoodForIsHeld =
-    (files : Files) (v : Versions) (x : FramedRecord) (xs : List FramedRecord) → StandsFor files v → HoldsLive files (x ∷ xs) → (fmt : Format) × (s : Standing) × HoldsStanding files fmt s × (v ≡ versions_of s)
+    (files : Files) (v : Versions) (x : LogRecord) (xs : List LogRecord) → StandsFor files v → HoldsLive files (x ∷ xs) → (fmt : Format) × (s : Standing) × HoldsStanding files fmt s × (v ≡ versions_of s)
 
 -- the standing that files hold is sound, and so are its versions
 abbrev pub HeldIsSound : Type 0
@@ -84,12 +84,12 @@ HeldIsSound = (files : Files) (fmt : Format) (s : Standing) → HoldsStanding fi
 
 -- one more record leads to its result for the standing before it
 abbrev pub OneMoreFollows : Type 0
-OneMoreFollows = (rs : List FramedRecord) (fmt : Format) (s s' : Standing) (y : FramedRecord) (r : Record) → LeadToStanding rs fmt s → IsSpelling fmt r y.kind y.payload → TakesRecord fmt s r s' → LeadToStanding (rs ++ y ∷ []) fmt s'
+OneMoreFollows = (rs : List LogRecord) (fmt : Format) (s s' : Standing) (y : LogRecord) (r : Record) → LeadToStanding rs fmt s → IsSpelling fmt r y.kind y.payload → TakesRecord fmt s r s' → LeadToStanding (rs ++ y ∷ []) fmt s'
 
 -- a checkpoint alone leads to the standing that it gives
 abbrev pub CheckpointAlone : Type 0
-CheckpointAlone = (fmt : Format) (s : Standing) (x : FramedRecord) (r : Record) → IsSpelling fmt r x.kind x.payload → GivesStanding fmt r s → LeadToStanding (x ∷ []) fmt s
+CheckpointAlone = (fmt : Format) (s : Standing) (x : LogRecord) (r : Record) → IsSpelling fmt r x.kind x.payload → GivesStanding fmt r s → LeadToStanding (x ∷ []) fmt s
 
 -- records that lead to a standing lead to its versions
 abbrev pub StandingsHaveVersions : Type 0
-StandingsHaveVersions = (rs : List FramedRecord) (fmt : Format) (s : Standing) → LeadToStanding rs fmt s → LeadTo rs (versions_of s)
+StandingsHaveVersions = (rs : List LogRecord) (fmt : Format) (s : Standing) → LeadToStanding rs fmt s → LeadTo rs (versions_of s)

@@ -4,7 +4,7 @@ use Rattle.jf_hash.specs.Maps.{Batch, map_of_entries}
 use Rattle.jf_model.specs.Versions.{Versions, land_all, versions_from_floor, imported_versions}
 use Rattle.jf_disk.specs.Disk.{History, reads, Files, IsImage}
 use Rattle.jf_disk.specs.Crashes.{GoesOn, LeavesNow}
-use Rattle.jf_frame.specs.Framed.{FramedRecord}
+use Rattle.jf_frame.specs.Framed.{LogRecord}
 use Rattle.jf_pair.specs.Files.{HoldsLive}
 use Rattle.jf_codec.specs.declared.format.Format.TheVariants as format
 use Rattle.jf_payload.specs.Spelling.{checkpoint_kind}
@@ -37,16 +37,16 @@ generation_after_step (Imports version es) g = g + 1
 
 -- ---- records
 -- there is one more record
-abbrev pub HasOneMore : List FramedRecord → List FramedRecord → Type 0
-HasOneMore rs rs' = (y : FramedRecord) × (rs' ≡ rs ++ y ∷ [])
+abbrev pub HasOneMore : List LogRecord → List LogRecord → Type 0
+HasOneMore rs rs' = (y : LogRecord) × (rs' ≡ rs ++ y ∷ [])
 
 -- there is one record, a checkpoint in format 2
-abbrev pub IsOneCheckpoint : List FramedRecord → Type 0
-IsOneCheckpoint rs = (x : FramedRecord) × (rs ≡ x ∷ []) × (x.kind ≡ checkpoint_kind format.Two)
+abbrev pub IsOneCheckpoint : List LogRecord → Type 0
+IsOneCheckpoint rs = (x : LogRecord) × (rs ≡ x ∷ []) × (x.kind ≡ checkpoint_kind format.Two)
 
 -- the live records after a step that succeeds: an opening writes a checkpoint if there was no record; a landing of
 -- batches and a floor add one record; a new generation and an import leave a checkpoint alone
-abbrev pub LiveAfter : StoreStep → List FramedRecord → List FramedRecord → Type 0
+abbrev pub LiveAfter : StoreStep → List LogRecord → List LogRecord → Type 0
 LiveAfter Opens [] rs' = IsOneCheckpoint rs'
 LiveAfter Opens (x ∷ xs) rs' = rs' ≡ x ∷ xs
 LiveAfter (Lands bs) rs rs' = HasOneMore rs rs'
@@ -65,7 +65,7 @@ pub record Succeeds (step : StoreStep) (old new : History) (v : Versions) : Type
   pub stands : StandsFor (reads new) (versions_after_step step v)
   pub leaves : LeavesNow new (λ f. StandsFor f (versions_after_step step v))
   pub generation_of : generation (reads new) ≡ generation_after_step step (generation (reads old))
-  pub live : (rs : List FramedRecord) → HoldsLive (reads old) rs → (rs' : List FramedRecord) × HoldsLive (reads new) rs' × LiveAfter step rs rs'
+  pub live : (rs : List LogRecord) → HoldsLive (reads old) rs → (rs' : List LogRecord) × HoldsLive (reads new) rs' × LiveAfter step rs rs'
 
 -- whatever a crash leaves represents what the files represent, and nothing else
 pub record IsCalm (h : History) : Type 0 where

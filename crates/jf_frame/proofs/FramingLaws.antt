@@ -4,7 +4,7 @@ use Rattle.std.proofs.Common.{arith, refl, ltb-true, ltb-false, ap, sym, subst, 
 use Rattle.std.specs.List.{AllByRecursion}
 use Rattle.jf_path.specs.Keys.{IsBytes}
 use Rattle.jf_frame.specs.Framing.{records, end_of, size_of, payload_of, body, IsFrame}
-use Rattle.jf_frame.specs.Framed.{FramedRecord}
+use Rattle.jf_frame.specs.Framed.{LogRecord}
 use Rattle.jf_frame.proofs.Spelling.{records-short, none_of_closed, file_spelled, spelled_end, none_of_short, journal, shown_all, length-body, payload_of-append, payload_of-body, whole-body}
 
 -- ---- files without records
@@ -22,7 +22,7 @@ records_closed bytes closed = none_of_closed bytes closed
 
 -- ---- where records end
 -- if a file holds records, they end at a closed gate within it
-pub some_end : (bytes : List ℕ) (r : FramedRecord) (rs : List FramedRecord) → records bytes ≡ Ok (r ∷ rs) → (end_of (r ∷ rs) < length bytes) × (slice_index bytes (end_of (r ∷ rs)) ≢ 1)
+pub some_end : (bytes : List ℕ) (r : LogRecord) (rs : List LogRecord) → records bytes ≡ Ok (r ∷ rs) → (end_of (r ∷ rs) < length bytes) × (slice_index bytes (end_of (r ∷ rs)) ≢ 1)
 some_end bytes r rs held =
     elim (nat_lt (length bytes) 2) as (λ b. nat_lt (length bytes) 2 ≡ b → (end_of (r ∷ rs) < length bytes) × (slice_index bytes (end_of (r ∷ rs)) ≢ 1)) [
       | true ↦ λ short. absurd (let e : [] ≡ r ∷ rs = none_of_short bytes (r ∷ rs) held (ltb-true _ _ short) in cc)
@@ -61,13 +61,13 @@ shown_bytes (b ∷ bs) at all =
     let here = bytes-front b (journal bs) all.1 in
     ((first_byte b here, bytes-take (size_of b) (drop 9 b) (bytes-drop 9 b here)), shown_bytes bs (at + 10 + size_of b) (bytes-back b (journal bs) all.1))
 
-pub bytes_of_records : (bytes : List ℕ) (rs : List FramedRecord) → IsBytes bytes → records bytes ≡ Ok rs → AllByRecursion (λ r. (r.kind < 256) × IsBytes r.payload) rs
+pub bytes_of_records : (bytes : List ℕ) (rs : List LogRecord) → IsBytes bytes → records bytes ≡ Ok rs → AllByRecursion (λ r. (r.kind < 256) × IsBytes r.payload) rs
 bytes_of_records bytes rs all held =
-    elim (nat_lt (length bytes) 2) as (λ b. nat_lt (length bytes) 2 ≡ b → AllByRecursion (λ (r : FramedRecord). (r.kind < 256) × IsBytes r.payload) rs) [
-      | true ↦ λ short. subst (λ rs. AllByRecursion (λ (r : FramedRecord). (r.kind < 256) × IsBytes r.payload) rs) (none_of_short bytes rs held (ltb-true _ _ short)) tt
+    elim (nat_lt (length bytes) 2) as (λ b. nat_lt (length bytes) 2 ≡ b → AllByRecursion (λ (r : LogRecord). (r.kind < 256) × IsBytes r.payload) rs) [
+      | true ↦ λ short. subst (λ rs. AllByRecursion (λ (r : LogRecord). (r.kind < 256) × IsBytes r.payload) rs) (none_of_short bytes rs held (ltb-true _ _ short)) tt
       | false ↦ λ long.
           let s = file_spelled bytes rs held (ltb-false _ _ long) in
-          subst (λ rs. AllByRecursion (λ (r : FramedRecord). (r.kind < 256) × IsBytes r.payload) rs) s.are
+          subst (λ rs. AllByRecursion (λ (r : LogRecord). (r.kind < 256) × IsBytes r.payload) rs) s.are
           (shown_bytes s.bodies 0 (bytes-front (journal s.bodies) (s.journaled.gate ∷ s.journaled.rest) (subst IsBytes s.journaled.is all)))
     ] refl
 

@@ -4,17 +4,17 @@ use Rattle.std.proofs.Common.{ap, ◌∙◌, sym, subst, refl, arith, eq-eqb, tr
 use Rattle.jf_disk.specs.Disk.{DiskState, Files, IsImage, content_on, bytes_of, durable, Content}
 use Rattle.jf_disk.specs.declared.side.Side.{Side}
 use Rattle.jf_disk.proofs.CrashLaws.{image_quiet}
-use Rattle.jf_frame.specs.Framed.{FramedRecord}
+use Rattle.jf_frame.specs.Framed.{LogRecord}
 use Rattle.jf_frame.specs.Logs.{IsReady, Log, IsReading, with_closed}
 use Rattle.jf_frame.specs.Framing.{records, end_of}
 use Rattle.jf_frame.proofs.FramingLaws.{some_end, none_end, records_one_byte}
 
 -- a crash leaves a ready side unchanged
-pub image_ready : (w : Side) (at : ℕ) (rs : List FramedRecord) (s : DiskState) (f : Files) → IsReady w at rs s → IsImage s f → bytes_of w f ≡ (content_on w s).bytes
+pub image_ready : (w : Side) (at : ℕ) (rs : List LogRecord) (s : DiskState) (f : Files) → IsReady w at rs s → IsImage s f → bytes_of w f ≡ (content_on w s).bytes
 image_ready w at rs s f ready i = image_quiet w s f ready.quiet i
 
 -- a crash leaves the records of a ready side
-pub records_ready : (w : Side) (at : ℕ) (rs : List FramedRecord) (s : DiskState) (f : Files) → IsReady w at rs s → IsImage s f → records (bytes_of w f) ≡ Ok rs
+pub records_ready : (w : Side) (at : ℕ) (rs : List LogRecord) (s : DiskState) (f : Files) → IsReady w at rs s → IsImage s f → records (bytes_of w f) ≡ Ok rs
 records_ready w at rs s f ready i = ap records (image_ready w at rs s f ready i) ∙ ready.held
 
 -- a side that was read is ready if it is synced, not empty, and not one open gate alone

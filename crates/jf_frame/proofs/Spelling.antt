@@ -6,7 +6,7 @@ use Rattle.std.specs.Int.{from_be_bytes, w64}
 use Rattle.std.specs.List.{AllByRecursion}
 use Rattle.jf_path.specs.Numbers.{eight_bytes}
 use Rattle.jf_frame.specs.Framing.{size_of, payload_of, with_record, number_of, after_record, records_from, records, end_from, end_of, body}
-use Rattle.jf_frame.specs.Framed.{FramedRecord}
+use Rattle.jf_frame.specs.Framed.{LogRecord}
 
 -- a whole body: a kind, a length and a payload of that length
 abbrev pub IsWholeBody : List ℕ → Type 0
@@ -18,16 +18,16 @@ journal [] = []
 journal (b ∷ bs) = 1 ∷ (b ++ journal bs)
 
 -- the record whose gate is at an offset and whose body these bytes are
-abbrev pub shown : ℕ → List ℕ → FramedRecord
+abbrev pub shown : ℕ → List ℕ → LogRecord
 shown at b = record { kind = get_or b 0 0; offset = at; payload = payload_of b }
 
 -- the records of bodies that follow one another from an offset on
-unfoldable pub shown_all : ℕ → List (List ℕ) → List FramedRecord
+unfoldable pub shown_all : ℕ → List (List ℕ) → List LogRecord
 shown_all at [] = []
 shown_all at (b ∷ bs) = shown at b ∷ shown_all (at + 10 + size_of b) bs
 
 -- records put before a result of reading
-abbrev pub prepend : List FramedRecord → Result (List FramedRecord) ℕ → Result (List FramedRecord) ℕ
+abbrev pub prepend : List LogRecord → Result (List LogRecord) ℕ → Result (List LogRecord) ℕ
 prepend [] x = x
 prepend (r ∷ rs) x = with_record r (prepend rs x)
 
@@ -93,7 +93,7 @@ read_one n at b tail whole more =
     let same : size_of (b ++ tail) ≡ size_of b = size_of-append b tail (omega arith) in
     read_rest n at (b ++ tail) (omega (arith, length-append b tail))
     ∙ ap₂ (λ r x. with_record r x)
-    (ap₂ (λ k p. let r : FramedRecord = record { kind = k; offset = at; payload = p } in r) (kind-append b tail (omega arith)) (payload_of-append b tail whole))
+    (ap₂ (λ k p. let r : LogRecord = record { kind = k; offset = at; payload = p } in r) (kind-append b tail (omega arith)) (payload_of-append b tail whole))
     (ap₂ (λ m t. records_from n (at + 10 + m) t) same (after_record-append b tail whole))
 
 pub read_closed : (n at gate : ℕ) (rest : List ℕ) → gate ≢ 1 → records_from (suc n) at (gate ∷ rest) ≡ Ok []
@@ -168,17 +168,17 @@ end-shown (b ∷ bs) at all =
 
 -- ---- bytes that were read are bodies
 -- bytes that are bodies, whose records are `rs`, before a closed gate
-pub record IsSpelled (bytes : List ℕ) (at : ℕ) (rs : List FramedRecord) : Type 0 where
+pub record IsSpelled (bytes : List ℕ) (at : ℕ) (rs : List LogRecord) : Type 0 where
   pub bodies : List (List ℕ)
   pub whole : AllWhole bodies
   pub are : shown_all at bodies ≡ rs
   pub journaled : IsJournal bytes bodies
 
 -- records that were read after one that is put before them
-HasHead : FramedRecord → List FramedRecord → Result (List FramedRecord) ℕ → Type 0
-HasHead r rs x = (qs : List FramedRecord) × (x ≡ Ok qs) × (r ∷ qs ≡ rs)
+HasHead : LogRecord → List LogRecord → Result (List LogRecord) ℕ → Type 0
+HasHead r rs x = (qs : List LogRecord) × (x ≡ Ok qs) × (r ∷ qs ≡ rs)
 
-unfold_head : (r : FramedRecord) (rs : List FramedRecord) (x : Result (List FramedRecord) ℕ) → with_record r x ≡ Ok rs → HasHead r rs x
+unfold_head : (r : LogRecord) (rs : List LogRecord) (x : Result (List LogRecord) ℕ) → with_record r x ≡ Ok rs → HasHead r rs x
 unfolding HasHead
 unfold_head r rs (Ok qs) e = (qs, refl, cc)
 unfold_head r rs (Err at) e = absurd (cc)
@@ -191,7 +191,7 @@ size_of-take rest long =
     let e : size_of rest ≡ size_of (take n rest) = ap size_of (sym (take-append-drop n rest)) ∙ size_of-append (take n rest) (drop n rest) (omega arith) in
     omega arith
 
-spelled_more : (at : ℕ) (rest : List ℕ) (qs : List FramedRecord) → 9 + size_of rest < length rest → IsSpelled (after_record rest) (at + 10 + size_of rest) qs → IsSpelled (1 ∷ rest) at (shown at rest ∷ qs)
+spelled_more : (at : ℕ) (rest : List ℕ) (qs : List LogRecord) → 9 + size_of rest < length rest → IsSpelled (after_record rest) (at + 10 + size_of rest) qs → IsSpelled (1 ∷ rest) at (shown at rest ∷ qs)
 unfolding after_record journal shown_all
 spelled_more at rest qs long s =
     let n = 9 + size_of rest in
@@ -205,7 +205,7 @@ spelled_more at rest qs long s =
     record {
       bodies = b ∷ s.bodies;
       whole = (whole, s.whole);
-      are = ap₂ (λ r qs. r ∷ qs) (ap₂ (λ k p. let r : FramedRecord = record { kind = k; offset = at; payload = p } in r) (sym kinds) (sym payloads)) (ap (λ m. shown_all (at + 10 + m) s.bodies) (sym same) ∙ s.are);
+      are = ap₂ (λ r qs. r ∷ qs) (ap₂ (λ k p. let r : LogRecord = record { kind = k; offset = at; payload = p } in r) (sym kinds) (sym payloads)) (ap (λ m. shown_all (at + 10 + m) s.bodies) (sym same) ∙ s.are);
       journaled = record {
         gate = s.journaled.gate;
         rest = s.journaled.rest;
@@ -214,12 +214,12 @@ spelled_more at rest qs long s =
       };
     }
 
-spelled_none : (at gate : ℕ) (rest : List ℕ) (rs : List FramedRecord) → gate ≢ 1 → [] ≡ rs → IsSpelled (gate ∷ rest) at rs
+spelled_none : (at gate : ℕ) (rest : List ℕ) (rs : List LogRecord) → gate ≢ 1 → [] ≡ rs → IsSpelled (gate ∷ rest) at rs
 unfolding journal shown_all
 spelled_none at gate rest rs closed e = record { bodies = []; whole = tt; are = e; journaled = record { gate = gate; rest = rest; closed = closed; is = refl } }
 
 -- records that were read from a gate on come from bodies
-pub was_spelled : (n at : ℕ) (bytes : List ℕ) (rs : List FramedRecord) → records_from n at bytes ≡ Ok rs → IsSpelled bytes at rs
+pub was_spelled : (n at : ℕ) (bytes : List ℕ) (rs : List LogRecord) → records_from n at bytes ≡ Ok rs → IsSpelled bytes at rs
 unfolding records_from HasHead
 was_spelled zero at bytes rs e = absurd (cc)
 was_spelled (suc n) at [] rs e = absurd (cc)
@@ -255,13 +255,13 @@ unfolding records
 records-short file short = cond-true (nat_lt (length file) 2) _ _ (lt-ltb _ _ short)
 
 -- the records of a file of two bytes or more come from bodies
-pub file_spelled : (file : List ℕ) (rs : List FramedRecord) → records file ≡ Ok rs → 2 ≤ length file → IsSpelled file 0 rs
+pub file_spelled : (file : List ℕ) (rs : List LogRecord) → records file ≡ Ok rs → 2 ≤ length file → IsSpelled file 0 rs
 file_spelled file rs e long = was_spelled (length file) 0 file rs (sym (records-long file long) ∙ e)
 
-pub none_of_short : (file : List ℕ) (rs : List FramedRecord) → records file ≡ Ok rs → length file < 2 → [] ≡ rs
+pub none_of_short : (file : List ℕ) (rs : List LogRecord) → records file ≡ Ok rs → length file < 2 → [] ≡ rs
 none_of_short file rs e short = let x : Ok [] ≡ Ok rs = sym (records-short file short) ∙ e in cc
 
-one_byte : (file : List ℕ) (rs : List FramedRecord) → [] ≡ rs → end_of rs < length file → get_or file (end_of rs) 0 ≢ 1 → IsSpelled file 0 rs
+one_byte : (file : List ℕ) (rs : List LogRecord) → [] ≡ rs → end_of rs < length file → get_or file (end_of rs) 0 ≢ 1 → IsSpelled file 0 rs
 one_byte file [] e lt closed =
     elim file as (λ file. 0 < length file → get_or file 0 0 ≢ 1 → IsSpelled file 0 []) [
       | [] ↦ λ lt closed. absurd (omega arith)
@@ -270,7 +270,7 @@ one_byte file [] e lt closed =
 one_byte file (r ∷ rs) e lt closed = absurd (cc)
 
 -- the records of a file come from bodies if they end at a closed gate
-pub closed_spelled : (file : List ℕ) (rs : List FramedRecord) → records file ≡ Ok rs → end_of rs < length file → get_or file (end_of rs) 0 ≢ 1 → IsSpelled file 0 rs
+pub closed_spelled : (file : List ℕ) (rs : List LogRecord) → records file ≡ Ok rs → end_of rs < length file → get_or file (end_of rs) 0 ≢ 1 → IsSpelled file 0 rs
 closed_spelled file rs e lt closed =
     elim (nat_lt (length file) 2) as (λ b. nat_lt (length file) 2 ≡ b → IsSpelled file 0 rs) [
       | true ↦ λ short. one_byte file rs (none_of_short file rs e (ltb-true _ _ short)) lt closed
@@ -278,7 +278,7 @@ closed_spelled file rs e lt closed =
     ] refl
 
 -- the bodies end at the offset of the closed gate
-pub end_spelled : (file : List ℕ) (rs : List FramedRecord) (s : IsSpelled file 0 rs) → end_of rs ≡ length (journal s.bodies)
+pub end_spelled : (file : List ℕ) (rs : List LogRecord) (s : IsSpelled file 0 rs) → end_of rs ≡ length (journal s.bodies)
 end_spelled file rs s = ap end_of (sym s.are) ∙ end-shown s.bodies 0 s.whole ∙ omega arith
 
 -- ---- frames
@@ -305,11 +305,11 @@ payload_of-body kind payload fits =
 
 -- the record of a frame's body
 pub shown-body : (at kind : ℕ) (payload : List ℕ) → length payload < 2 ^ 64 → shown at (body kind payload) ≡ record { kind = kind; offset = at; payload = payload }
-shown-body at kind payload fits = ap (λ p. let r : FramedRecord = record { kind = kind; offset = at; payload = p } in r) (payload_of-body kind payload fits)
+shown-body at kind payload fits = ap (λ p. let r : LogRecord = record { kind = kind; offset = at; payload = p } in r) (payload_of-body kind payload fits)
 
 -- ---- where the records of a file end
 -- records that come from bodies end at a closed gate
-pub spelled_end : (file : List ℕ) (rs : List FramedRecord) → IsSpelled file 0 rs → (end_of rs < length file) × (get_or file (end_of rs) 0 ≢ 1)
+pub spelled_end : (file : List ℕ) (rs : List LogRecord) → IsSpelled file 0 rs → (end_of rs < length file) × (get_or file (end_of rs) 0 ≢ 1)
 spelled_end file rs s =
     let e = end_spelled file rs s in
     (subst (λ n. n < length file) (sym e) (room file s.bodies s.journaled), λ one. s.journaled.closed (sym (gate_of file s.bodies s.journaled) ∙ ap (λ n. get_or file n 0) (sym e) ∙ one))

@@ -4,7 +4,7 @@ use Rattle.jf_disk.specs.Disk.{DiskState, content_on, durable, Content, History,
 use Rattle.jf_disk.specs.declared.side.Side.{Side}
 use Rattle.jf_disk.specs.Crashes.{opposite}
 use Rattle.jf_disk.specs.declared.side.Side.TheVariants as side
-use Rattle.jf_frame.specs.Framed.{FramedRecord}
+use Rattle.jf_frame.specs.Framed.{LogRecord}
 use Rattle.jf_frame.specs.Framing.{records, end_of}
 use Rattle.jf_frame.specs.Logs.{Log, IsReading, IsReady}
 use Rattle.jf_frame.proofs.FramingLaws.{some_end}
@@ -24,16 +24,16 @@ read_ready w s log read quiet some =
       closed = λ one. ends.1 (ap (λ n. get_or (content_on w s).bytes n 0) (sym read.ends) ∙ one);
     }
   where
-    ends_closed : (bytes : List ℕ) (rs : List FramedRecord) → records bytes ≡ Ok rs → 0 < length rs → (end_of rs < length bytes) × (get_or bytes (end_of rs) 0 ≢ 1)
+    ends_closed : (bytes : List ℕ) (rs : List LogRecord) → records bytes ≡ Ok rs → 0 < length rs → (end_of rs < length bytes) × (get_or bytes (end_of rs) 0 ≢ 1)
     ends_closed bytes [] held some = absurd (omega arith)
     ends_closed bytes (r ∷ rs) held some = some_end bytes r rs held
 
 -- what holds of both sides' records holds of each
-of_both : (P : List FramedRecord → Type 0) (w : Side) (left right : List FramedRecord) → P left → P right → P (records_of w left right)
+of_both : (P : List LogRecord → Type 0) (w : Side) (left right : List LogRecord) → P left → P right → P (records_of w left right)
 of_both P side.A left right l r = l
 of_both P side.B left right l r = r
 
-opened_here : (p : Pair) (live other : Log) (left right : List FramedRecord) (s : DiskState)
+opened_here : (p : Pair) (live other : Log) (left right : List LogRecord) (s : DiskState)
     → p.side ≡ live_side left right → live.records ≡ records_of p.side left right → other.records ≡ records_of (opposite p.side) left right
     → is_begun left ≡ true → is_begun right ≡ true → are_level left right ≡ false
     → IsReading live p.side (content_on p.side s).bytes → IsReading other (opposite p.side) (content_on (opposite p.side) s).bytes
@@ -53,7 +53,7 @@ opened_here p live other left right s is l o left_begun right_begun apart read r
 }
 
 -- the disk is in step with the pair that an opening makes
-pub opened_in_step : (w : Side) (p : Pair) (live other : Log) (left right : List FramedRecord) (s : DiskState)
+pub opened_in_step : (w : Side) (p : Pair) (live other : Log) (left right : List LogRecord) (s : DiskState)
     → p.side ≡ w → w ≡ live_side left right → live.records ≡ records_of w left right → other.records ≡ records_of (opposite w) left right
     → is_begun left ≡ true → is_begun right ≡ true → are_level left right ≡ false
     → IsReading live w (content_on w s).bytes → IsReading other (opposite w) (content_on (opposite w) s).bytes
@@ -71,5 +71,5 @@ pub synced_same : (w : Side) (s : DiskState) (bytes : List ℕ) → content_on w
 synced_same w s bytes e = e ∙ ap (λ (c : Content). durable c.bytes) (sym e)
 
 -- damage on side B, if side A holds records
-pub damaged_b : (h : History) (left : List FramedRecord) (w : Side) (at : ℕ) → records h.now.a.bytes ≡ Ok left → w ≡ side.B → records h.now.b.bytes ≡ Err at → outer_damage (reads h) ≡ Some (w, at)
+pub damaged_b : (h : History) (left : List LogRecord) (w : Side) (at : ℕ) → records h.now.a.bytes ≡ Ok left → w ≡ side.B → records h.now.b.bytes ≡ Err at → outer_damage (reads h) ≡ Some (w, at)
 damaged_b h left w at a is b = ap₂ damage_in a b ∙ ap (λ w. Some (w, at)) (sym is)

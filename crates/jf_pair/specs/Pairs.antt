@@ -3,7 +3,7 @@ use Rattle.std.specs.Prelude.{ℕ, Bool, ◌≡◌, ◌↔◌, ◌<◌, true, Li
 use Rattle.jf_disk.specs.declared.side.Side.{Side}
 use Rattle.jf_disk.specs.Disk.{DiskState, content_on, durable, History}
 use Rattle.jf_disk.specs.Crashes.{opposite, GoesOn}
-use Rattle.jf_frame.specs.Framed.{FramedRecord}
+use Rattle.jf_frame.specs.Framed.{LogRecord}
 use Rattle.jf_frame.specs.Framing.{records}
 use Rattle.jf_frame.specs.Logs.{IsReady, Log}
 use Rattle.jf_pair.specs.Files.{is_begun, IsOlder, HoldsLive}
@@ -18,8 +18,8 @@ pub record Pair : Type 0 where
 
 -- a disk is in step with a pair: both sides are synced; the pair's side holds the records `rs` and, if it is live, is
 -- ready for one more; the other side holds records of a lesser generation, or no record
-pub record IsInStep (p : Pair) (rs : List FramedRecord) (s : DiskState) : Type 0 where
-  pub others : List FramedRecord
+pub record IsInStep (p : Pair) (rs : List LogRecord) (s : DiskState) : Type 0 where
+  pub others : List LogRecord
   pub quiet : content_on p.side s ≡ durable (content_on p.side s).bytes
   pub quiet_across : content_on (opposite p.side) s ≡ durable (content_on (opposite p.side) s).bytes
   pub held : records (content_on p.side s).bytes ≡ Ok rs
@@ -31,10 +31,10 @@ pub record IsInStep (p : Pair) (rs : List FramedRecord) (s : DiskState) : Type 0
   pub ready : p.is_live ≡ true → IsReady p.side p.offset rs s
 
 -- a crash leaves the live records `rs` or the live records `rs'`
-abbrev pub StopsBetween : History → History → List FramedRecord → List FramedRecord → Type 0
+abbrev pub StopsBetween : History → History → List LogRecord → List LogRecord → Type 0
 StopsBetween old new rs rs' = GoesOn old new (λ f. HoldsLive f rs ⊎ HoldsLive f rs')
 
 -- the records of the log that an opening returns; no record if it returns no log
-abbrev pub log_records : Option Log → List FramedRecord
+abbrev pub log_records : Option Log → List LogRecord
 log_records None = []
 log_records (Some log) = log.records

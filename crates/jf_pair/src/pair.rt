@@ -3,7 +3,7 @@ ghost use Rattle.std.specs.Prelude.{◌≡◌, ◌↔◌, ◌+◌, ◌<◌, ◌�
 ghost use Rattle.jf_disk.specs.Disk.{History, CallsOn, content_on, reads, put_at};
 ghost use Rattle.jf_disk.specs.Crashes.{LeavesFiles, KeepsOther, opposite};
 ghost use Rattle.jf_disk.specs.declared.side.Side.{Side};
-ghost use Rattle.jf_frame.specs.Framed.{FramedRecord};
+ghost use Rattle.jf_frame.specs.Framed.{LogRecord};
 ghost use Rattle.jf_frame.specs.Framing.{IsFrame, number_of};
 ghost use Rattle.jf_frame.specs.Logs.{appended_record};
 ghost use Rattle.jf_pair.specs.Files.{HoldsLive, is_begun, is_checkpoint, generation_of, outer_damage};
@@ -73,14 +73,14 @@ impl Pair {
         requires framed { (kind : ℕ) × (payload : List ℕ) × IsFrame frame.now kind payload }
         requires sound { self.old.failed ≡ false }
         requires live { self.old.is_live ≡ true }
-        requires in_step { (h : History) → D.history disk.old ≡ Some h → (rs : List FramedRecord) × IsInStep self.old rs h.now }
-        ensures ok { (h : History) (rs : List FramedRecord) (kind : ℕ) (payload : List ℕ) → D.history disk.old ≡ Some h → IsInStep self.old rs h.now → IsFrame frame.now kind payload
+        requires in_step { (h : History) → D.history disk.old ≡ Some h → (rs : List LogRecord) × IsInStep self.old rs h.now }
+        ensures ok { (h : History) (rs : List LogRecord) (kind : ℕ) (payload : List ℕ) → D.history disk.old ≡ Some h → IsInStep self.old rs h.now → IsFrame frame.now kind payload
             → OnOk result ((g : History) × (D.history disk.new ≡ Some g) × IsInStep self.new (rs ++ appended_record self.old.offset kind payload ∷ []) g.now) }
-        ensures written { (h : History) (rs : List FramedRecord) → D.history disk.old ≡ Some h → IsInStep self.old rs h.now
+        ensures written { (h : History) (rs : List LogRecord) → D.history disk.old ≡ Some h → IsInStep self.old rs h.now
             → OnOk result ((g : History) × (D.history disk.new ≡ Some g) × ((content_on self.old.side g.now).bytes ≡ put_at self.old.offset (1 ∷ frame.now) (content_on self.old.side h.now).bytes)) }
-        ensures stop { (h : History) (rs : List FramedRecord) (kind : ℕ) (payload : List ℕ) → D.history disk.old ≡ Some h → IsInStep self.old rs h.now → IsFrame frame.now kind payload
+        ensures stop { (h : History) (rs : List LogRecord) (kind : ℕ) (payload : List ℕ) → D.history disk.old ≡ Some h → IsInStep self.old rs h.now → IsFrame frame.now kind payload
             → (g : History) × (D.history disk.new ≡ Some g) × StopsBetween h g rs (rs ++ appended_record self.old.offset kind payload ∷ []) }
-        ensures other { (h : History) (rs : List FramedRecord) → D.history disk.old ≡ Some h → IsInStep self.old rs h.now → (g : History) × (D.history disk.new ≡ Some g) × KeepsOther self.old.side h g }
+        ensures other { (h : History) (rs : List LogRecord) → D.history disk.old ≡ Some h → IsInStep self.old rs h.now → (g : History) × (D.history disk.new ≡ Some g) × KeepsOther self.old.side h g }
         ensures offset { OnOk result (self.new.offset ≡ self.old.offset + length frame.now) }
         ensures elapsed { OnOk result (D.moment disk.new ≡ D.moment disk.old + 4) }
         ensures rest { (self.new.side ≡ self.old.side) × (self.new.is_live ≡ self.old.is_live) }
@@ -101,12 +101,12 @@ impl Pair {
         requires framed { (kind : ℕ) × (payload : List ℕ) × IsFrame frame.now kind payload }
         requires checkpoint { (kind : ℕ) (payload : List ℕ) → IsFrame frame.now kind payload → (is_checkpoint kind ≡ true) × (8 ≤ length payload) }
         requires sound { self.old.failed ≡ false }
-        requires in_step { (h : History) → D.history disk.old ≡ Some h → (rs : List FramedRecord) × IsInStep self.old rs h.now }
-        requires newer { (h : History) (rs : List FramedRecord) (kind : ℕ) (payload : List ℕ) → D.history disk.old ≡ Some h → IsInStep self.old rs h.now → IsFrame frame.now kind payload → self.old.is_live ≡ true → generation_of rs < number_of payload }
+        requires in_step { (h : History) → D.history disk.old ≡ Some h → (rs : List LogRecord) × IsInStep self.old rs h.now }
+        requires newer { (h : History) (rs : List LogRecord) (kind : ℕ) (payload : List ℕ) → D.history disk.old ≡ Some h → IsInStep self.old rs h.now → IsFrame frame.now kind payload → self.old.is_live ≡ true → generation_of rs < number_of payload }
         ensures ok { (h : History) (kind : ℕ) (payload : List ℕ) → D.history disk.old ≡ Some h → IsFrame frame.now kind payload
             → OnOk result ((g : History) × (D.history disk.new ≡ Some g) × IsInStep self.new (appended_record 0 kind payload ∷ []) g.now) }
         ensures written { (h : History) → D.history disk.old ≡ Some h → OnOk result ((g : History) × (D.history disk.new ≡ Some g) × ((content_on self.new.side g.now).bytes ≡ 1 ∷ frame.now)) }
-        ensures stop { (h : History) (rs : List FramedRecord) (kind : ℕ) (payload : List ℕ) → D.history disk.old ≡ Some h → IsInStep self.old rs h.now → IsFrame frame.now kind payload
+        ensures stop { (h : History) (rs : List LogRecord) (kind : ℕ) (payload : List ℕ) → D.history disk.old ≡ Some h → IsInStep self.old rs h.now → IsFrame frame.now kind payload
             → (g : History) × (D.history disk.new ≡ Some g) × StopsBetween h g rs (appended_record 0 kind payload ∷ []) }
         ensures other { (h : History) → D.history disk.old ≡ Some h → (g : History) × (D.history disk.new ≡ Some g) × KeepsOther (opposite self.old.side) h g }
         ensures side { OnOk result ((self.new.side ≡ opposite self.old.side) × (self.new.is_live ≡ true)) }

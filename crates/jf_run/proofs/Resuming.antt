@@ -10,7 +10,7 @@ use Rattle.jf_disk.specs.Disk.{Files, History, reads}
 use Rattle.jf_disk.specs.Crashes.{LeavesFiles}
 use Rattle.jf_files.specs.Files.{StandsFor}
 use Rattle.jf_files.specs.Laws.{FilesStandForOne, DamageIsNoVersions}
-use Rattle.jf_engine.specs.Framed.{FramedRecord}
+use Rattle.jf_engine.specs.Framed.{LogRecord}
 use Rattle.jf_engine.specs.Files.{HoldsLive}
 use Rattle.jf_engine.specs.Openings.{DiskView, HasOpened, KeepsVersions, OnHistories}
 use Rattle.jf_history.specs.declared.end.End.{End}
@@ -33,7 +33,7 @@ held_record files v version announced one stands other unless none =
     unless (λ there. other (subst (λ (w : Versions). IsRootAt w version announced) (one files new_store v (none_is_new files none) stands) there)) none
 
 -- an opening leaves files that held a record as they were
-kept_record : (h g : History) (rs : List FramedRecord) → HoldsLive (reads h) rs → KeepsVersions h g → (HoldsLive (reads h) [] → ⊥) → LeavesFiles h g
+kept_record : (h g : History) (rs : List LogRecord) → HoldsLive (reads h) rs → KeepsVersions h g → (HoldsLive (reads h) [] → ⊥) → LeavesFiles h g
 kept_record h g [] held keeps some = absurd (some held)
 kept_record h g (x ∷ xs) held keeps some = keeps.recorded x xs held
 

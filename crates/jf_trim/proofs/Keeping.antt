@@ -6,7 +6,7 @@ use Rattle.jf_disk.specs.Crashes.{GoesOn, Idles, LeavesFiles, LeavesNow, LeavesO
 use Rattle.jf_disk.specs.declared.side.Side.{Side}
 use Rattle.jf_disk.specs.declared.side.Side.TheVariants as side
 use Rattle.jf_disk.proofs.CrashLaws.{by_both, by_weaker, goes_further, goes_now, goes_weaker, image_quiet, leaves_further, leaves_idle, opposite_opposite, other_now}
-use Rattle.jf_frame.specs.Framed.{FramedRecord}
+use Rattle.jf_frame.specs.Framed.{LogRecord}
 use Rattle.jf_frame.specs.Framing.{records}
 use Rattle.jf_frame.specs.Logs.{SameOrNone, StopsInBegin}
 use Rattle.jf_pair.specs.Files.{HoldsLive}
@@ -27,12 +27,12 @@ files_same side.A f g a b = ap₂ (λ a b. let x : Files = record { a = a; b = b
 files_same side.B f g b a = ap₂ (λ a b. let x : Files = record { a = a; b = b } in x) a b
 
 -- ---- the live records
-holds_still : (p : Pair) (rs : List FramedRecord) (s : DiskState) (f : Files) → IsInStep p rs s → records (bytes_of p.side f) ≡ Ok rs → SameOrNone (opposite p.side) (content_on (opposite p.side) s).bytes f → HoldsLive f rs
+holds_still : (p : Pair) (rs : List LogRecord) (s : DiskState) (f : Files) → IsInStep p rs s → records (bytes_of p.side f) ≡ Ok rs → SameOrNone (opposite p.side) (content_on (opposite p.side) s).bytes f → HoldsLive f rs
 holds_still p rs s f k live (inl same) = holds_of p.side f rs k.others live (same ∙ k.held_across) k.begun k.begun_across k.older
 holds_still p rs s f k live (inr none) = holds_of p.side f rs [] live none k.begun refl (inl refl)
 
 -- a crash while the side that isn't live is initialised leaves the live records
-begin_leaves : (p : Pair) (rs : List FramedRecord) (h g : History) → IsInStep p rs h.now → StopsInBegin (opposite p.side) h g → GoesOn h g (λ f. HoldsLive f rs)
+begin_leaves : (p : Pair) (rs : List LogRecord) (h g : History) → IsInStep p rs h.now → StopsInBegin (opposite p.side) h g → GoesOn h g (λ f. HoldsLive f rs)
 begin_leaves p rs h g k stops =
     let P : Files → Type 0 = SameOrNone (opposite p.side) (content_on (opposite p.side) h.now).bytes in
     by_weaker (λ s. LeavesOnly P s × (content_on (opposite (opposite p.side)) s ≡ content_on (opposite (opposite p.side)) h.now)) (LeavesOnly (λ f. HoldsLive f rs)) h g
@@ -40,7 +40,7 @@ begin_leaves p rs h g k stops =
     (by_both (LeavesOnly P) (λ s. content_on (opposite (opposite p.side)) s ≡ content_on (opposite (opposite p.side)) h.now) h g stops.images stops.other)
 
 -- files that hold the live records of others represent what these represent
-stands_same : (f g : Files) (rs : List FramedRecord) (v : Versions) → HoldsLive f rs → HoldsLive g rs → StandsFor f v → StandsFor g v
+stands_same : (f g : Files) (rs : List LogRecord) (v : Versions) → HoldsLive f rs → HoldsLive g rs → StandsFor f v → StandsFor g v
 stands_same f g rs v held held' s = record { live = rs; held = held'; leads = subst (λ xs. LeadTo xs v) (holds_one f s.live rs s.held held) s.leads }
 
 -- ---- a store that is kept
@@ -54,7 +54,7 @@ kept_by_leaving h g left = record {
 }
 
 -- the files were read, and the side that isn't live initialised, whether that succeeded or not
-pub kept_by_cutting : (w : Side) (rs : List FramedRecord) (h m g : History) → IsSpareIn w rs m.now → w ≡ spare_side (reads h) → LeavesFiles h m → StopsInBegin w m g → IsImage g.now (reads g) → KeepsStore h g
+pub kept_by_cutting : (w : Side) (rs : List LogRecord) (h m g : History) → IsSpareIn w rs m.now → w ≡ spare_side (reads h) → LeavesFiles h m → StopsInBegin w m g → IsImage g.now (reads g) → KeepsStore h g
 kept_by_cutting w rs h m g is spare left stops readable =
     let p = is.0 in
     let k = is.2 in
@@ -82,7 +82,7 @@ kept_stops_well old new v k s calm =
 
 -- ---- a side that was trimmed
 -- after it both sides are synced
-leaves_read : (w : Side) (rs : List FramedRecord) (m g : History) (bytes : List ℕ) → IsSpareIn w rs m.now → StopsInBegin w m g → content_on w g.now ≡ durable bytes → LeavesNow g (λ f. f ≡ reads g)
+leaves_read : (w : Side) (rs : List LogRecord) (m g : History) (bytes : List ℕ) → IsSpareIn w rs m.now → StopsInBegin w m g → content_on w g.now ≡ durable bytes → LeavesNow g (λ f. f ≡ reads g)
 leaves_read w rs m g bytes is stops cut f image =
     let p = is.0 in
     let still : content_on (opposite w) g.now ≡ content_on (opposite w) m.now = other_now w m g stops.other in
@@ -91,7 +91,7 @@ leaves_read w rs m g bytes is stops cut f image =
     files_same w f (reads g) (image_quiet w g.now f (synced_same w g.now bytes cut) image ∙ sym (bytes_of-reads w g))
     (image_quiet (opposite w) g.now f (subst (λ c. c ≡ durable c.bytes) (sym still) quiet) image ∙ sym (bytes_of-reads (opposite w) g))
 
-pub has_trimmed : (t : Trimmed) (rs : List FramedRecord) (h m g : History)
+pub has_trimmed : (t : Trimmed) (rs : List LogRecord) (h m g : History)
     → IsSpareIn t.side rs m.now → HoldsLive (reads h) rs → t.side ≡ spare_side (reads h) → LeavesFiles h m → StopsInBegin t.side m g
     → content_on t.side g.now ≡ durable (trimmed_side (content_on t.side m.now).bytes) → t.bytes + length (trimmed_side (content_on t.side m.now).bytes) ≡ length (content_on t.side m.now).bytes
     → (t.bytes ≡ 0 → Idles m g) → HasTrimmed t h g

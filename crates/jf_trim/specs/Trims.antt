@@ -4,7 +4,7 @@ use Rattle.jf_model.specs.Versions.{Versions}
 use Rattle.jf_disk.specs.Disk.{DiskState, Files, History, IsImage, bytes_of, reads}
 use Rattle.jf_disk.specs.Crashes.{GoesOn, LeavesFiles, LeavesNow, opposite}
 use Rattle.jf_disk.specs.declared.side.Side.{Side}
-use Rattle.jf_frame.specs.Framed.{FramedRecord}
+use Rattle.jf_frame.specs.Framed.{LogRecord}
 use Rattle.jf_frame.specs.Framing.{records}
 use Rattle.jf_pair.specs.Files.{HoldsLive, live_side}
 use Rattle.jf_pair.specs.Pairs.{Pair, IsInStep}
@@ -22,12 +22,12 @@ trimmed_side (gate ∷ []) = gate ∷ []
 trimmed_side (gate ∷ next ∷ rest) = (if gate == 1 then 0 else gate) ∷ []
 
 -- both sides are synced, the other side holds the records `rs`, and this side holds none that count
-abbrev pub IsSpareIn : Side → List FramedRecord → DiskState → Type 0
+abbrev pub IsSpareIn : Side → List LogRecord → DiskState → Type 0
 IsSpareIn w rs s = (p : Pair) × (w ≡ opposite p.side) × IsInStep p rs s
 
 -- the side that isn't live was trimmed, and gave back so many bytes: if that is none, nothing was changed. A crash leaves what a read gives
 pub record HasTrimmed (t : Trimmed) (old new : History) : Type 0 where
-  pub sound : (rs : List FramedRecord) × HoldsLive (reads old) rs
+  pub sound : (rs : List LogRecord) × HoldsLive (reads old) rs
   pub side : t.side ≡ spare_side (reads old)
   pub cut : bytes_of t.side (reads new) ≡ trimmed_side (bytes_of t.side (reads old))
   pub given : t.bytes + length (bytes_of t.side (reads new)) ≡ length (bytes_of t.side (reads old))

@@ -4,7 +4,7 @@ use Rattle.std.specs.FinMap as fin
 use Rattle.jf_hash.specs.Maps.{map_of_entries}
 use Rattle.jf_model.specs.Versions.{imported_versions, newest}
 use Rattle.jf_disk.specs.Disk.{History, reads}
-use Rattle.jf_frame.specs.Framed.{FramedRecord}
+use Rattle.jf_frame.specs.Framed.{LogRecord}
 use Rattle.jf_frame.specs.Framing.{IsFrame, number_of}
 use Rattle.jf_pair.specs.Files.{HoldsLive, generation_of}
 use Rattle.jf_pair.proofs.PairLaws.{in_step_holds, in_step_one}
@@ -111,7 +111,7 @@ returns-in-Ok-clause-checkpoint g c = λ h told.
     let frame = subst (λ bytes. IsFrame bytes 5 payload) (sym c.as_slice.ensures) c.in_ok-frame.ensures.frame in
     let ok = c.in-Ok.ensures.ok h 5 payload told frame in
     let same = ordered-checkpoint n s' (imported_standing format.Two version (map_of_entries es)) c.in_ok-directory.ensures.standing c.know-2.ensures.read c.know-2.ensures.sound in
-    (ok.0, ok.1, subst (λ (x : FramedRecord). HoldsLive (reads ok.0) (x ∷ [])) same (in_step_holds c.switch.new.self (checkpoint_at_start n s' ∷ []) ok.0 ok.2))) told
+    (ok.0, ok.1, subst (λ (x : LogRecord). HoldsLive (reads ok.0) (x ∷ [])) same (in_step_holds c.switch.new.self (checkpoint_at_start n s' ∷ []) ok.0 ok.2))) told
 
 pub returns-in-Err-clause-step : goal.returns-in-Err-clause-step
 returns-in-Err-clause-step g c =
