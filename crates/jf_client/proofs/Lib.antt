@@ -3,7 +3,6 @@ pub mod Judged
 pub mod Replies
 pub mod Restored
 pub mod OtherLines
-pub mod CountedLines
 pub mod HonestClaims
 pub mod RunJudged
 pub mod Openings

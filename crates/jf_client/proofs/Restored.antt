@@ -27,7 +27,7 @@ use Rattle.jf_blocks.specs.Blocks.{chunk_lines}
 use Rattle.jf_blocks.specs.Reading.{ReadResult, Chunk, LinePlace, and_then, one_line_read, line_read, chunk_of, chunk_body}
 use Rattle.jf_blocks.specs.Laws.{IsHash, IsChunkBlock, ChunksAreReadBack, RepliesBeginChunks, head}
 use Rattle.jf_blocks.specs.declared.chunk.ChunkHead.{ChunkHead}
-use Rattle.jf_blocks.proofs.Bounds.{Bounded, chunk_body-bounded}
+use Rattle.jf_blocks.proofs.Bounds.{IsCounted, chunk_body-counted}
 use Rattle.hex.specs.Hex.{IsBytes}
 use Rattle.jf_receive.specs.Chunks.{chunks_from, accepted_chunk}
 use Rattle.jf_receive.specs.declared.fault.BlockFault.{BlockFault}
@@ -115,7 +115,10 @@ module _ (back : ChunksAreReadBack) (begins : RepliesBeginChunks) (accepted : Ho
     read at = back (es m start count) (proof m start count) at rest (block-fits m start count is_map small)
 
     fewer_left : length (lines rest) ≤ length (lines (block ++ rest))
-    fewer_left = (subst (Bounded (record { at = 0; left = lines (block ++ rest) })) (read 0) (chunk_body-bounded (head (es m start count) (proof m start count)) (record { at = 0; left = lines (block ++ rest) }))).1
+    fewer_left =
+        let counted = subst (IsCounted (record { at = 0; left = lines (block ++ rest) })) (read 0) (chunk_body-counted (head (es m start count) (proof m start count)) (record { at = 0; left = lines (block ++ rest) })) in
+        let same = counted.1 in
+        omega arith
 
     -- the lines of a reply are read as its block, which is accepted
     block_taken : (n at : ℕ) → chunks_from (suc n) (root m) (take start (entries m)) (record { at = at; left = lines text })

@@ -25,6 +25,7 @@ use Rattle.jf_script.specs.declared.reply.Reply.TheVariants as reply
 use Rattle.jf_blocks.specs.Blocks.{proof_lines}
 use Rattle.jf_blocks.specs.Reading.{LinePlace, line_read, first_line_of, proof_block}
 use Rattle.jf_blocks.specs.Laws.{BlocksAreReadBack, RepliesBeginBlocks, RepliesSetRoots}
+use Rattle.jf_blocks.proofs.Bounds.{IsCounted, proof_block-counted}
 use Rattle.jf_blocks.specs.declared.first.FirstLine.TheVariants as first
 use Rattle.jf_verify.specs.Verdicts.{Judging, say, syntax_text, verdicts_from, verdicts, judged_of, nothing_known}
 use Rattle.jf_verify.specs.declared.accepted.Accepted.{Accepted}
@@ -38,7 +39,6 @@ use Rattle.jf_client.proofs.Told.{hash_of_key, honest-told}
 use Rattle.jf_client.proofs.Judged.{root_step, block_step, end_step, knows}
 use Rattle.jf_client.proofs.Replies.{answered}
 use Rattle.jf_client.proofs.OtherLines.{IsNoFirst, other_lines_of}
-use Rattle.jf_client.proofs.CountedLines.{Counted, proof_block-counted}
 use Rattle.jf_client.proofs.HonestClaims.{IsOf, all_more, judged-honest}
 
 -- ---- such lines, judged
@@ -175,7 +175,7 @@ module _ (back : BlocksAreReadBack) (begins : RepliesBeginBlocks) (sets : Replie
     block_read at rest = back a.name claim proof at rest (honest-told m a.name is_map a.fits)
 
     block_counted : (at : ℕ) (rest : List ℕ) → at + 3 + k + length (lines rest) ≡ at + length (lines (block ++ rest))
-    block_counted at rest = subst (Counted (record { at = at; left = lines (block ++ rest) })) (block_read at rest) (proof_block-counted k (record { at = at; left = lines (block ++ rest) }))
+    block_counted at rest = (subst (IsCounted (record { at = at; left = lines (block ++ rest) })) (block_read at rest) (proof_block-counted k (record { at = at; left = lines (block ++ rest) }))).1
 
     -- its own lines
     proof_alone : 4 + k ≡ length (lines (text_heard h))

@@ -14,8 +14,8 @@ use Rattle.jf_lead.specs.declared.fault.LandingFault.TheVariants as fault
 use Rattle.jf_lead.specs.Reading.{LandingBlocks, with_block, blocks_from, landing_line_of, landing_body, landing_block, change_after, changes_after}
 use Rattle.jf_lead.specs.Steps.{with_later, step_to, whole_or_begun, landing_head_step, change_step, landing_line_step, number_after, reading_after_all, ended_blocks, blocks_after}
 use Rattle.jf_lead.specs.Laws.{LandingsComeLineByLine}
-use Rattle.jf_blocks.proofs.Bounds.{Bounded}
-use Rattle.jf_lead.proofs.Bounds.{landing_body-bounded}
+use Rattle.jf_blocks.proofs.Bounds.{IsCounted}
+use Rattle.jf_lead.proofs.Bounds.{landing_body-counted}
 
 -- the result of lines from a state on
 abbrev pub blocks_at : ℕ → Stage → List (List ℕ) → LandingBlocks
@@ -90,10 +90,10 @@ block_read at line ls = blocks_at-line at stage.Between line ls ∙ head_read at
 
 -- ---- all lines
 module _ (n : ℕ) (others : (at : ℕ) (left : List (List ℕ)) → length left ≤ n → blocks_from n (record { at = at; left = left }) ≡ blocks_at at stage.Between left) where
-  block_taken : (at : ℕ) (line : List ℕ) (ls : List (List ℕ)) (o : ReadResult LandingBlock) → Bounded (record { at = at + 1; left = ls }) o → length ls ≤ n
+  block_taken : (at : ℕ) (line : List ℕ) (ls : List (List ℕ)) (o : ReadResult LandingBlock) → IsCounted (record { at = at + 1; left = ls }) o → length ls ≤ n
       → elim o as (λ x. LandingBlocks) [ Err i ↦ record { whole = []; bad = Some i } | Ok b ↦ with_block (at, b.0) (blocks_from n b.1) ] ≡ answered at o
   block_taken at line ls (Err i) h few = refl
-  block_taken at line ls (Ok b) h few = let less = h.1 in ap (with_block (at, b.0)) (others b.1.at b.1.left (omega arith))
+  block_taken at line ls (Ok b) h few = let low = h.0 in let same = h.1 in ap (with_block (at, b.0)) (others b.1.at b.1.left (omega arith))
 
 blocks_from-at : (n : ℕ) (at : ℕ) (left : List (List ℕ)) → length left ≤ n → blocks_from n (record { at = at; left = left }) ≡ blocks_at at stage.Between left
 unfolding blocks_from ended_blocks reading_after_all
@@ -106,7 +106,7 @@ blocks_from-at (suc n) at (line ∷ ls) few =
       | Ok b ↦ with_block (at, b.0) (blocks_from n b.1)
     ] ≡ answered at (and_then (one_line_read at ls o) landing_body)) [
       | None ↦ refl
-      | Some head ↦ block_taken n (blocks_from-at n) at line ls (landing_body head (record { at = at + 1; left = ls })) (landing_body-bounded head (record { at = at + 1; left = ls })) (omega arith)
+      | Some head ↦ block_taken n (blocks_from-at n) at line ls (landing_body head (record { at = at + 1; left = ls })) (landing_body-counted head (record { at = at + 1; left = ls })) (omega arith)
     ]
     ∙ sym (block_read at line ls)
 

@@ -8,7 +8,7 @@ use Rattle.jf_restore.specs.RestoreValue.{RestoreValue}
 use Rattle.jf_restore.specs.Restores.{with_more}
 use Rattle.jf_blocks.specs.Reading.{ReadResult, Chunk, LinePlace, and_then, one_line_read, line_read, line_by, gives, lines_by, side_of, entry_of, chunk_of, chunk_body, chunk_block}
 use Rattle.jf_blocks.specs.Sides.{kept_sides}
-use Rattle.jf_blocks.proofs.Bounds.{Bounded, chunk_body-bounded}
+use Rattle.jf_blocks.proofs.Bounds.{IsCounted, chunk_body-counted}
 use Rattle.jf_blocks.proofs.SideLaws.{with_kept-kept_sides, range_refusal-kept_sides}
 use Rattle.jf_receive.specs.declared.fault.BlockFault.{BlockFault}
 use Rattle.jf_receive.specs.declared.stage.Stage.{Stage}
@@ -143,14 +143,14 @@ module _ (n : ℕ) (others : (r : RestoreValue) (at : ℕ) (left : List (List �
   chunk_taken r first chunk p None is few = others (with_more r chunk.0) p.at p.left few
   chunk_taken r first chunk p (Some why) is few = sym (refused_stays r p.at (fault.Chunk first why) p.left)
 
-  block_taken : (r : RestoreValue) (at : ℕ) (line : List ℕ) (ls : List (List ℕ)) (o : ReadResult Chunk) → Bounded (record { at = at + 1; left = ls }) o → length ls ≤ n
+  block_taken : (r : RestoreValue) (at : ℕ) (line : List ℕ) (ls : List (List ℕ)) (o : ReadResult Chunk) → IsCounted (record { at = at + 1; left = ls }) o → length ls ≤ n
       → with_entries r (elim o as (λ x. Result Entries BlockFault) [
         | Err e ↦ Err (fault.Line e)
         | Ok b ↦ elim (accepted_chunk r.root at r.entries b.0) as (λ x. Result Entries BlockFault) [ Err why ↦ Err why | Ok all ↦ chunks_from n r.root all b.1 ]
       ])
       ≡ restoring_answered r at o
   block_taken r at line ls (Err e) h few = refl
-  block_taken r at line ls (Ok b) h few = let less = h.1 in chunk_taken r at b.0 b.1 (range_refusal r.root r.entries b.0.0 b.0.1) refl (omega arith)
+  block_taken r at line ls (Ok b) h few = let low = h.0 in let same = h.1 in chunk_taken r at b.0 b.1 (range_refusal r.root r.entries b.0.0 b.0.1) refl (omega arith)
 
 chunks_from-lines : (n : ℕ) (r : RestoreValue) (at : ℕ) (left : List (List ℕ)) → length left ≤ n → with_entries r (chunks_from n r.root r.entries (record { at = at; left = left })) ≡ from r at stage.Between left
 unfolding chunks_from restoring_after_lines
@@ -163,7 +163,7 @@ chunks_from-lines (suc n) r at (line ∷ ls) few =
       | Ok b ↦ elim (accepted_chunk r.root at r.entries b.0) as (λ x. Result Entries BlockFault) [ Err why ↦ Err why | Ok all ↦ chunks_from n r.root all b.1 ]
     ]) ≡ restoring_answered r at (and_then (one_line_read at ls o) chunk_body)) [
       | None ↦ refl
-      | Some head ↦ block_taken n (chunks_from-lines n) r at line ls (chunk_body head (record { at = at + 1; left = ls })) (chunk_body-bounded head (record { at = at + 1; left = ls })) (omega arith)
+      | Some head ↦ block_taken n (chunks_from-lines n) r at line ls (chunk_body head (record { at = at + 1; left = ls })) (chunk_body-counted head (record { at = at + 1; left = ls })) (omega arith)
     ]
     ∙ sym (block_read r at line ls)
 

@@ -3,9 +3,9 @@ use Rattle.std.proofs.Common.{ℕ, ◌+◌, List, ◌++◌, ◌≡◌, drop, ◌
 use Rattle.std.proofs.lemmas.List.{drop_all}
 use Rattle.jf_io.specs.Lines.{lines}
 use Rattle.jf_blocks.specs.Reading.{LinePlace, ReadResult, line_read, proof_block}
-use Rattle.jf_blocks.proofs.Bounds.{Bounded, proof_block-bounded}
+use Rattle.jf_blocks.proofs.Bounds.{IsCounted, proof_block-counted}
 use Rattle.jf_many_blocks.specs.ManyReading.{many_body}
-use Rattle.jf_many_blocks.proofs.ManyBounds.{many_body-bounded}
+use Rattle.jf_many_blocks.proofs.ManyBounds.{many_body-counted}
 use Rattle.jf_verify.specs.Openings.{opening_of}
 use Rattle.jf_verify.specs.declared.opening.Opening.{Opening}
 use Rattle.jf_verify.specs.declared.opening.Opening.TheVariants as opening
@@ -20,8 +20,8 @@ use Rattle.jf_verify.proofs.ManyRead.{many_reads}
 
 -- ---- all of the input
 said_left : {Y : Type 0} (answer : ReadResult Y → BlockAnswer) (j : Judging) (at : ℕ) (line : List ℕ) (ls : List (List ℕ)) → ((e : ℕ) → answer (Err e) ≡ wrong_at e j (record { at = at; left = line ∷ ls })) → ((x : Y) (q : LinePlace) → (answer (Ok (x, q))).place ≡ q)
-    → (n : ℕ) (r : ReadResult Y) → Bounded (record { at = at + 1; left = ls }) r → length ls ≤ n → length (answer r).place.left ≤ n
-said_left answer j at line ls wrong after n (Ok r) h few = let less = h.1 in rw (after r.0 r.1) (omega arith)
+    → (n : ℕ) (r : ReadResult Y) → IsCounted (record { at = at + 1; left = ls }) r → length ls ≤ n → length (answer r).place.left ≤ n
+said_left answer j at line ls wrong after n (Ok r) h few = let low = h.0 in let same = h.1 in rw (after r.0 r.1) (omega arith)
 said_left answer j at line ls wrong after n (Err e) h few = rw (wrong e) (omega (arith, length-drop (e + 1 - at) (line ∷ ls)))
 
 module _ (n : ℕ) (others : (j : Judging) (at : ℕ) (left : List (List ℕ)) → length left ≤ n → verdicts_from n j (record { at = at; left = left }) ≡ said_to_end (record { at = at; known = knowledge_of j; stage = stage.Between }) left) where
@@ -46,7 +46,7 @@ module _ (n : ℕ) (others : (j : Judging) (at : ℕ) (left : List (List ℕ)) �
       let start : at + 1 ≡ at + 1 = refl in
       elim j.root as (λ o. (let s : BlockAnswer = elim o [ None ↦ wrong_at at j p | Some root ↦ say_block root j p (proof_block k q) ] in s.text ++ verdicts_from n s.known s.place) ≡ goes (keeps (knowledge_of j) (begins at k o)) at ls) [
         | None ↦ wrong_first j at line ls few
-        | Some root ↦ said_goes (say_block root j p (proof_block k q)) (said_left (say_block root j p) j at line ls (λ e. refl) (λ b t. refl) n (proof_block k q) (proof_block-bounded k q) few) ∙ sym (block_reads k root j p (at + 1) ls (1, start, refl))
+        | Some root ↦ said_goes (say_block root j p (proof_block k q)) (said_left (say_block root j p) j at line ls (λ e. refl) (λ b t. refl) n (proof_block k q) (proof_block-counted k q) few) ∙ sym (block_reads k root j p (at + 1) ls (1, start, refl))
       ]
   first_goes j at line ls few (Some (opening.Many head)) =
       let p : LinePlace = record { at = at; left = line ∷ ls } in
@@ -54,7 +54,7 @@ module _ (n : ℕ) (others : (j : Judging) (at : ℕ) (left : List (List ℕ)) �
       let start : at + 1 ≡ at + 1 = refl in
       elim j.root as (λ o. (let s : BlockAnswer = elim o [ None ↦ wrong_at at j p | Some root ↦ say_many root j p (many_body head q) ] in s.text ++ verdicts_from n s.known s.place) ≡ goes (keeps (knowledge_of j) (many_begins at head o)) at ls) [
         | None ↦ wrong_first j at line ls few
-        | Some root ↦ said_goes (say_many root j p (many_body head q)) (said_left (say_many root j p) j at line ls (λ e. refl) (λ b t. refl) n (many_body head q) (many_body-bounded head q) few) ∙ sym (many_reads head root j p at ls (1, start, refl))
+        | Some root ↦ said_goes (say_many root j p (many_body head q)) (said_left (say_many root j p) j at line ls (λ e. refl) (λ b t. refl) n (many_body head q) (many_body-counted head q) few) ∙ sym (many_reads head root j p at ls (1, start, refl))
       ]
 
 verdicts_from-said_to_end : (n : ℕ) (j : Judging) (at : ℕ) (left : List (List ℕ)) → length left ≤ n → verdicts_from n j (record { at = at; left = left }) ≡ said_to_end (record { at = at; known = knowledge_of j; stage = stage.Between }) left
