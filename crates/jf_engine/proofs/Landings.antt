@@ -21,7 +21,7 @@ use Rattle.jf_standing.specs.Next.{IsReadStanding}
 use Rattle.jf_standing.specs.Landing.{head_map, landing_of}
 use Rattle.jf_standing.specs.Building.{landed_on, landings_of, all_landed}
 use Rattle.jf_files.specs.StepLaws.{landed_record}
-use Rattle.jf_engine.specs.Landings.{LandedBy}
+use Rattle.jf_engine.specs.Landings.{LandsCommits}
 
 -- ---- what landings write
 landings-push : (fmt : Format) (s : Standing) (bs : List Batch) (b : Batch) → landings_of fmt s (bs ++ b ∷ []) ≡ landings_of fmt s bs ++ landing_of fmt (all_landed fmt s bs) (apply (head_map (all_landed fmt s bs)) b) ∷ []
@@ -60,7 +60,7 @@ pub record AreLandedSoFar (from : Standing) (landed rest : List Batch) (cs : Lis
   pub written : cs ≡ landings_of format.Two from landed
   pub spelled : AllByRecursion (IsCommit format.Two) cs
   pub leads : to ≡ all_landed format.Two from landed
-  pub back : LandedBy from (reverse cs) to
+  pub back : LandsCommits from (reverse cs) to
   pub head : to.head ≡ from.head + length landed
   pub room : len (head_map to) + key_count rest ≤ 2 ^ 63
 
@@ -73,32 +73,32 @@ pub landed_more : (from : Standing) (landed rest : List Batch) (cs cs' : List Co
 landed_more from landed rest cs cs' to to' b so batch read sound sorted written spelled is grown =
     let m = apply (head_map to) b in
     let c = landing_of format.Two to m in
-    let back : LandedBy from (c ∷ reverse cs) to' = (to, m, read, sound, sorted, refl, is, so.back) in
+    let back : LandsCommits from (c ∷ reverse cs) to' = (to, m, read, sound, sorted, refl, is, so.back) in
     let room = so.room in
     record {
       sound = All-append IsBatch landed (b ∷ []) so.sound (batch, tt);
       written = written ∙ ap₂ (λ xs (t : Standing). xs ++ landing_of format.Two t (apply (head_map t) b) ∷ []) so.written so.leads ∙ sym (landings-push format.Two from landed b);
       spelled = subst (AllByRecursion (IsCommit format.Two)) (sym written) (All-append (IsCommit format.Two) cs (c ∷ []) so.spelled (spelled, tt));
       leads = is ∙ ap (λ (t : Standing). landed_on format.Two (apply (head_map t) b) t) so.leads ∙ sym (all_landed-push format.Two from landed b);
-      back = subst (λ xs. LandedBy from xs to') (sym (reverse-append cs (c ∷ [])) ∙ ap reverse (sym written)) back;
+      back = subst (λ xs. LandsCommits from xs to') (sym (reverse-append cs (c ∷ [])) ∙ ap reverse (sym written)) back;
       head = ap (λ (t : Standing). t.head) is ∙ (let h = so.head in let l = length-append landed (b ∷ []) in omega (arith, h, l));
       room = omega (arith, room, grown);
     }
 
 -- ---- landings that are taken back
 -- one more of the first landings is the newest of them
-left_less : (from : Standing) (cs : List Commit) (n : ℕ) (d : Commit) (to : Standing) → n < length cs → LandedBy from (reverse (take (suc n) cs)) to → LandedBy from (slice_index_or cs n d ∷ reverse (take n cs)) to
-left_less from cs n d to within by = subst (λ xs. LandedBy from xs to) (ap reverse (take-suc cs n d within) ∙ reverse-append (take n cs) (slice_index_or cs n d ∷ [])) by
+left_less : (from : Standing) (cs : List Commit) (n : ℕ) (d : Commit) (to : Standing) → n < length cs → LandsCommits from (reverse (take (suc n) cs)) to → LandsCommits from (slice_index_or cs n d ∷ reverse (take n cs)) to
+left_less from cs n d to within by = subst (λ xs. LandsCommits from xs to) (ap reverse (take-suc cs n d within) ∙ reverse-append (take n cs) (slice_index_or cs n d ∷ [])) by
 
 -- the last of the landings that are left is the next to be taken back
-pub next_left : (from : Standing) (cs : List Commit) (left : ℕ) (x d : Commit) (to : Standing) → 0 < left → left ≤ length cs → x ≡ slice_index_or cs (left - 1) d → LandedBy from (reverse (take left cs)) to → LandedBy from (x ∷ reverse (take (left - 1) cs)) to
+pub next_left : (from : Standing) (cs : List Commit) (left : ℕ) (x d : Commit) (to : Standing) → 0 < left → left ≤ length cs → x ≡ slice_index_or cs (left - 1) d → LandsCommits from (reverse (take left cs)) to → LandsCommits from (x ∷ reverse (take (left - 1) cs)) to
 next_left from cs left x d to some within is by =
     let e : suc (left - 1) ≡ left = omega arith in
-    let step = left_less from cs (left - 1) d to (omega arith) (subst (λ (k : ℕ). LandedBy from (reverse (take k cs)) to) (sym e) by) in
-    subst (λ (c : Commit). LandedBy from (c ∷ reverse (take (left - 1) cs)) to) (sym is) step
+    let step = left_less from cs (left - 1) d to (omega arith) (subst (λ (k : ℕ). LandsCommits from (reverse (take k cs)) to) (sym e) by) in
+    subst (λ (c : Commit). LandsCommits from (c ∷ reverse (take (left - 1) cs)) to) (sym is) step
 
-pub taken_back : (from : Standing) (cs : List Commit) (left : ℕ) (s to : Standing) → to ≡ s → LandedBy from (reverse (take (left - 1) cs)) s → LandedBy from (reverse (take (left - 1) cs)) to
-taken_back from cs left s to is by = subst (LandedBy from (reverse (take (left - 1) cs))) (sym is) by
+pub taken_back : (from : Standing) (cs : List Commit) (left : ℕ) (s to : Standing) → to ≡ s → LandsCommits from (reverse (take (left - 1) cs)) s → LandsCommits from (reverse (take (left - 1) cs)) to
+taken_back from cs left s to is by = subst (LandsCommits from (reverse (take (left - 1) cs))) (sym is) by
 
 -- ---- landings of the batches of a slice
 module _ (from : Standing) (bs : List Batch) (i : ℕ) (cs : List Commit) (to : Standing) (so : AreLandedSoFar from (take i bs) (drop i bs) cs to) where
@@ -127,5 +127,5 @@ module _ (from : Standing) (bs : List Batch) (i : ℕ) (cs : List Commit) (to : 
   at_end past = subst (λ done. AreLandedSoFar from done (drop i bs) cs to) (take_all i bs past) so
 
 -- the landings before a refused one are still the first of the list
-pub first_kept : (from to : Standing) (cs cs' more : List Commit) (n : ℕ) → cs' ≡ cs ++ more → n ≡ length cs → LandedBy from (reverse cs) to → LandedBy from (reverse (take n cs')) to
-first_kept from to cs cs' more n is count by = subst (λ xs. LandedBy from (reverse xs) to) (sym (ap₂ take count is ∙ take-append_seam cs more)) by
+pub first_kept : (from to : Standing) (cs cs' more : List Commit) (n : ℕ) → cs' ≡ cs ++ more → n ≡ length cs → LandsCommits from (reverse cs) to → LandsCommits from (reverse (take n cs')) to
+first_kept from to cs cs' more n is count by = subst (λ xs. LandsCommits from (reverse xs) to) (sym (ap₂ take count is ∙ take-append_seam cs more)) by

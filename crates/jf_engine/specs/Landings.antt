@@ -14,9 +14,9 @@ use Rattle.jf_standing.specs.Landing.{landing_of, version_after}
 use Rattle.jf_standing.specs.Building.{landed_on}
 
 -- the landings, the newest first, lead from the standing `from` to the standing `to`, each from a sound one
-abbrev pub LandedBy : Standing → List Commit → Standing → Type 0
-LandedBy from [] to = to ≡ from
-LandedBy from (c ∷ cs) to = (s : Standing) × (m : Map) × IsReadStanding s × IsSound format.Two s × IsMap m × (c ≡ landing_of format.Two s m) × (to ≡ landed_on format.Two m s) × LandedBy from cs s
+abbrev pub LandsCommits : Standing → List Commit → Standing → Type 0
+LandsCommits from [] to = to ≡ from
+LandsCommits from (c ∷ cs) to = (s : Standing) × (m : Map) × IsReadStanding s × IsSound format.Two s × IsMap m × (c ≡ landing_of format.Two s m) × (to ≡ landed_on format.Two m s) × LandsCommits from cs s
 
 -- a snapshot of the map m as the version after the head of s: each node that the landing of m doesn't write keeps its version
 pub record IsSnapshotAfter (s : Standing) (m : Map) (x : SnapshotValue) : Type 0 where

@@ -1,6 +1,6 @@
 -- Lines that were taken as landing blocks, and their effect on a store.
 use Rattle.std.proofs.Common.{◌≡◌, inl, inr, ℕ, ◌+◌, List, [], ◌∷◌, ◌++◌, length, map, arith, Option, Some, None, refl, ap, sym, ◌∙◌, subst, append_assoc, append-nil}
-use Rattle.jf_input.specs.Feeds.{Took}
+use Rattle.jf_input.specs.Feeds.{TakesLines}
 use Rattle.jf_model.specs.Versions.{versions_after_landing}
 use Rattle.jf_model.specs.Entries.{timeless}
 use Rattle.jf_model.specs.declared.entries.Entry.{Entry}
@@ -69,7 +69,7 @@ made_after s mid next (Some b) bs (inr landed) m = record {
   follows = block_lands s.store mid.store next.store b.1 (unnumbered bs) m.more landed.0 m.follows;
 }
 
-pub made : (ls : List (List ℕ)) (s next : FollowState) (text : List ℕ) → Took TakesLandingLine s ls next text → Made s next (unnumbered (ended_blocks s.reading ls))
+pub made : (ls : List (List ℕ)) (s next : FollowState) (text : List ℕ) → TakesLines TakesLandingLine s ls next text → Made s next (unnumbered (ended_blocks s.reading ls))
 unfolding ended_blocks
 made [] s next text took = record {
   more = [];
@@ -83,18 +83,18 @@ made (line ∷ ls) s next text took =
     (subst (λ (r : LandingReading). Made mid next (unnumbered (ended_blocks r ls))) took.3.1.0 later)
 
 -- how far the blocks are read after them
-pub took_reading : (ls : List (List ℕ)) (s next : FollowState) (text : List ℕ) → Took TakesLandingLine s ls next text → next.reading ≡ reading_after_all s.reading ls
+pub took_reading : (ls : List (List ℕ)) (s next : FollowState) (text : List ℕ) → TakesLines TakesLandingLine s ls next text → next.reading ≡ reading_after_all s.reading ls
 unfolding reading_after_all
 took_reading [] s next text took = ap (λ (x : FollowState). x.reading) took.0
 took_reading (line ∷ ls) s next text took = took_reading ls took.0 next took.2 took.4 ∙ ap (λ r. reading_after_all r ls) took.3.1.0
 
 -- and none of the lines is refused
-pub took_good : (ls : List (List ℕ)) (s next : FollowState) (text : List ℕ) → stage_refusal s.reading.stage ≡ None → Took TakesLandingLine s ls next text → stage_refusal next.reading.stage ≡ None
+pub took_good : (ls : List (List ℕ)) (s next : FollowState) (text : List ℕ) → stage_refusal s.reading.stage ≡ None → TakesLines TakesLandingLine s ls next text → stage_refusal next.reading.stage ≡ None
 took_good [] s next text good took = ap (λ (x : FollowState). stage_refusal x.reading.stage) took.0 ∙ good
 took_good (line ∷ ls) s next text good took = took_good ls took.0 next took.2 took.3.1.1 took.4
 
 -- and the number of the next one is one more for each
-pub took_number : (ls : List (List ℕ)) (s next : FollowState) (text : List ℕ) → stage_refusal s.reading.stage ≡ None → Took TakesLandingLine s ls next text → next.reading.at ≡ s.reading.at + length ls
+pub took_number : (ls : List (List ℕ)) (s next : FollowState) (text : List ℕ) → stage_refusal s.reading.stage ≡ None → TakesLines TakesLandingLine s ls next text → next.reading.at ≡ s.reading.at + length ls
 took_number [] s next text good took = let e : s.reading.at ≡ s.reading.at + 0 = omega arith in ap (λ (x : FollowState). x.reading.at) took.0 ∙ e
 took_number (line ∷ ls) s next text good took =
     let mid : FollowState = took.0 in
@@ -103,17 +103,17 @@ took_number (line ∷ ls) s next text good took =
     omega (arith, one, later)
 
 -- of a block that has started there is a line for each change
-pub took_next : (ls : List (List ℕ)) (s next : FollowState) (text : List ℕ) → IsNextLine s.reading.at s.reading.stage → Took TakesLandingLine s ls next text → IsNextLine next.reading.at next.reading.stage
+pub took_next : (ls : List (List ℕ)) (s next : FollowState) (text : List ℕ) → IsNextLine s.reading.at s.reading.stage → TakesLines TakesLandingLine s ls next text → IsNextLine next.reading.at next.reading.stage
 took_next [] s next text h took = subst (λ (r : LandingReading). IsNextLine r.at r.stage) (ap (λ (x : FollowState). x.reading) (sym took.0)) h
 took_next (line ∷ ls) s next text h took =
     took_next ls took.0 next took.2 (subst (λ (r : LandingReading). IsNextLine r.at r.stage) (sym took.3.1.0) (reading_after-next s.reading line h)) took.4
 
 -- nothing is written before the end
-pub took_nothing : (ls : List (List ℕ)) (s next : FollowState) (text : List ℕ) → Took TakesLandingLine s ls next text → text ≡ []
+pub took_nothing : (ls : List (List ℕ)) (s next : FollowState) (text : List ℕ) → TakesLines TakesLandingLine s ls next text → text ≡ []
 took_nothing [] s next text took = took.1
 took_nothing (line ∷ ls) s next text took = took.5 ∙ ap (λ t. t ++ took.2) took.3.0 ∙ took_nothing ls took.0 next took.2 took.4
 
 -- the same of what shows a state
-pub took_shown : {M : Type 0} (shown : M → FollowState) (ls : List (List ℕ)) (s next : M) (text : List ℕ) → Took (λ m line n r. TakesLandingLine (shown m) line (shown n) r) s ls next text → Took TakesLandingLine (shown s) ls (shown next) text
+pub took_shown : {M : Type 0} (shown : M → FollowState) (ls : List (List ℕ)) (s next : M) (text : List ℕ) → TakesLines (λ m line n r. TakesLandingLine (shown m) line (shown n) r) s ls next text → TakesLines TakesLandingLine (shown s) ls (shown next) text
 took_shown shown [] s next text took = (ap shown took.0, took.1)
 took_shown shown (line ∷ ls) s next text took = (shown took.0, took.1, took.2, took.3, took_shown shown ls took.0 next took.2 took.4, took.5)

@@ -5,7 +5,7 @@ use Rattle.std.proofs.lemmas.List.{length-append}
 use Rattle.jf_path.specs.Faults.{HasCause}
 use Rattle.jf_io.specs.declared.piece.TheConstants.{MAX_PIECE}
 use Rattle.jf_io.proofs.FirstLines.{all_first}
-use Rattle.jf_input.specs.Feeds.{Took, ReadsAll, ReadsLinesOf, ReadsFew, HasFed}
+use Rattle.jf_input.specs.Feeds.{TakesLines, ReadsAll, ReadsLinesOf, ReadsFew, HasFed}
 use Rattle.jf_input.specs.declared.feeding.Feeding.{Feeding}
 use Rattle.jf_input.specs.declared.feeding.Feeding.TheVariants as feeding
 use Rattle.jf_input.proofs.FirstRead.{has_read_first}
@@ -39,13 +39,13 @@ whole_after : (ls : List (List ℕ)) → whole_blocks ls ≡ unnumbered (ended_b
 whole_after ls = ap (λ (x : LandingBlocks). unnumbered x.whole) (landing_blocks-lines ls)
 
 -- the effect of lines on a store
-pub lines_followed : (ls : List (List ℕ)) (old : Engine) (next : FollowState) (text : List ℕ) → Took TakesLandingLine (started old) ls next text → FollowsLines old next.store next.entries ls
+pub lines_followed : (ls : List (List ℕ)) (old : Engine) (next : FollowState) (text : List ℕ) → TakesLines TakesLandingLine (started old) ls next text → FollowsLines old next.store next.entries ls
 lines_followed ls old next text took =
     let m = made ls (started old) next text took in
     subst (λ es. FollowsBlocks old next.store (whole_blocks ls) es) (sym m.entries) (subst (λ bs. FollowsBlocks old next.store bs m.more) (sym (whole_after ls)) m.follows)
 
 -- none of them is bad
-pub no_bad_line : (ls : List (List ℕ)) (old : Engine) (next : FollowState) (text : List ℕ) → Took TakesLandingLine (started old) ls next text → HasNoBadLine ls
+pub no_bad_line : (ls : List (List ℕ)) (old : Engine) (next : FollowState) (text : List ℕ) → TakesLines TakesLandingLine (started old) ls next text → HasNoBadLine ls
 no_bad_line ls old next text took =
     sym (stage_refusal-decided ls) ∙ ap (λ (r : LandingReading). stage_refusal r.stage) (sym (took_reading ls (started old) next text took)) ∙ took_good ls (started old) next text refl took
 
@@ -100,7 +100,7 @@ module _ (old : Engine) (source source' text text' : Option (List ℕ)) where
   moved : (ls : List (List ℕ)) (mid last : FollowState) → IsUnmoved mid last → FollowsLines old mid.store mid.entries ls → FollowsLines old last.store last.entries ls
   moved ls mid last same f = subst (λ es. FollowsLines old last.store es ls) (sym same.1) (subst (λ (e : Engine). FollowsLines old e mid.entries ls) (sym same.0) f)
 
-  module _ (ls : List (List ℕ)) (mid last : FollowState) (said : List ℕ) (took : Took TakesLandingLine (started old) ls mid said) (line : List ℕ) (same_text : text' ≡ text) (reads : ReadsFew MAX_PIECE source source' (ls ++ line ∷ [])) where
+  module _ (ls : List (List ℕ)) (mid last : FollowState) (said : List ℕ) (took : TakesLines TakesLandingLine (started old) ls mid said) (line : List ℕ) (same_text : text' ≡ text) (reads : ReadsFew MAX_PIECE source source' (ls ++ line ∷ [])) where
     follows : FollowsLines old mid.store mid.entries ls
     follows = lines_followed ls old mid said took
 
@@ -174,20 +174,20 @@ module _ (old : Engine) (source source' text text' : Option (List ℕ)) where
     stops stop.Memory t = (ls, read_before source source' ls line reads, no_bad_line ls old mid said took, moved ls mid last t follows, same_text)
 
   -- ---- at the end of the input
-  end_is : (ls : List (List ℕ)) (mid : FollowState) (said : List ℕ) → Took TakesLandingLine (started old) ls mid said → (landing_blocks ls).bad ≡ bad_line (refusal_at_end mid.reading.at mid.reading.stage)
+  end_is : (ls : List (List ℕ)) (mid : FollowState) (said : List ℕ) → TakesLines TakesLandingLine (started old) ls mid said → (landing_blocks ls).bad ≡ bad_line (refusal_at_end mid.reading.at mid.reading.stage)
   end_is ls mid said took =
       ap (λ (x : LandingBlocks). x.bad) (landing_blocks-lines ls) ∙ ap (λ (r : LandingReading). bad_line (refusal_at_end r.at r.stage)) (sym (took_reading ls (started old) mid said took))
 
-  no_bad : (ls : List (List ℕ)) (mid : FollowState) (said : List ℕ) → Took TakesLandingLine (started old) ls mid said → refusal_at_end mid.reading.at mid.reading.stage ≡ None → (landing_blocks ls).bad ≡ None
+  no_bad : (ls : List (List ℕ)) (mid : FollowState) (said : List ℕ) → TakesLines TakesLandingLine (started old) ls mid said → refusal_at_end mid.reading.at mid.reading.stage ≡ None → (landing_blocks ls).bad ≡ None
   no_bad ls mid said took none = end_is ls mid said took ∙ ap bad_line none
 
-  is_bad : (ls : List (List ℕ)) (mid : FollowState) (said : List ℕ) → Took TakesLandingLine (started old) ls mid said → (at : ℕ) → refusal_at_end mid.reading.at mid.reading.stage ≡ Some (landing_fault.Line at) → (landing_blocks ls).bad ≡ Some at
+  is_bad : (ls : List (List ℕ)) (mid : FollowState) (said : List ℕ) → TakesLines TakesLandingLine (started old) ls mid said → (at : ℕ) → refusal_at_end mid.reading.at mid.reading.stage ≡ Some (landing_fault.Line at) → (landing_blocks ls).bad ≡ Some at
   is_bad ls mid said took at e = end_is ls mid said took ∙ ap bad_line e
 
-  input_followed : (ls : List (List ℕ)) (mid : FollowState) (said : List ℕ) → Took TakesLandingLine (started old) ls mid said → ReadsAll source source' ls → refusal_at_end mid.reading.at mid.reading.stage ≡ None → FollowsInput old mid.store mid.entries source source'
+  input_followed : (ls : List (List ℕ)) (mid : FollowState) (said : List ℕ) → TakesLines TakesLandingLine (started old) ls mid said → ReadsAll source source' ls → refusal_at_end mid.reading.at mid.reading.stage ≡ None → FollowsInput old mid.store mid.entries source source'
   input_followed ls mid said took reads none = record { ls = ls; read = reads; good = no_bad ls mid said took none; follows = lines_followed ls old mid said took }
 
-  ends : (ls : List (List ℕ)) (mid : FollowState) (said : List ℕ) → Took TakesLandingLine (started old) ls mid said → ReadsAll source source' ls → (how : Followed) → EndsFollowing how mid.reading mid.store.versions text text' → Came how mid
+  ends : (ls : List (List ℕ)) (mid : FollowState) (said : List ℕ) → TakesLines TakesLandingLine (started old) ls mid said → ReadsAll source source' ls → (how : Followed) → EndsFollowing how mid.reading mid.store.versions text text' → Came how mid
   ends ls mid said took reads followed.Done e = (input_followed ls mid said took reads e.0, e.1)
   ends ls mid said took reads followed.WriteFault e = (input_followed ls mid said took reads e.0, e.1)
   ends ls mid said took reads followed.Memory e = (ls, read_all source source' ls reads, no_bad_line ls old mid said took, lines_followed ls old mid said took, e)
@@ -211,12 +211,12 @@ module _ (old : Engine) (source source' text text' : Option (List ℕ)) where
     abbrev FedBy : Feeding FollowStop → Type 0
     FedBy how = HasFed (λ m line n r. TakesLandingLine (shown m) line (shown n) r) (λ m n r. EndsLandingLines (shown m) (shown n) r) (λ m n. Unit {0}) MAX_PIECE how first last source source' None None
 
-    took_of : (how : Feeding FollowStop) (f : FedBy how) → Took TakesLandingLine (started old) f.done (shown f.mid) f.said
-    took_of how f = subst (λ (s : FollowState). Took TakesLandingLine s f.done (shown f.mid) f.said) is_started (took_shown shown f.done first f.mid f.said f.took)
+    took_of : (how : Feeding FollowStop) (f : FedBy how) → TakesLines TakesLandingLine (started old) f.done (shown f.mid) f.said
+    took_of how f = subst (λ (s : FollowState). TakesLines TakesLandingLine s f.done (shown f.mid) f.said) is_started (took_shown shown f.done first f.mid f.said f.took)
 
     -- the lines were taken, and no more
-    took_last : (how : Feeding FollowStop) (f : FedBy how) → last ≡ f.mid → Took TakesLandingLine (started old) f.done (shown last) f.said
-    took_last how f same = subst (λ (s : FollowState). Took TakesLandingLine (started old) f.done s f.said) (ap shown (sym same)) (took_of how f)
+    took_last : (how : Feeding FollowStop) (f : FedBy how) → last ≡ f.mid → TakesLines TakesLandingLine (started old) f.done (shown last) f.said
+    took_last how f same = subst (λ (s : FollowState). TakesLines TakesLandingLine (started old) f.done s f.said) (ap shown (sym same)) (took_of how f)
 
     -- it stopped at a line
     pub fed_stopped : (why : FollowStop) → FedBy (feeding.Stopped why) → text' ≡ text → Came (followed_by_stop why) (shown last)
@@ -234,7 +234,7 @@ module _ (old : Engine) (source source' text text' : Option (List ℕ)) where
       | inl b ↦ absurd b.2
       | inr e ↦ elim e [
         | inl l ↦ absurd l.2
-        | inr a ↦ ends f.done (shown last) f.said (subst (λ (s : FollowState). Took TakesLandingLine (started old) f.done s f.said) (sym a.0.1.0) (took_of feeding.Done f)) a.1 how end
+        | inr a ↦ ends f.done (shown last) f.said (subst (λ (s : FollowState). TakesLines TakesLandingLine (started old) f.done s f.said) (sym a.0.1.0) (took_of feeding.Done f)) a.1 how end
       ]
     ]
 

@@ -7,7 +7,7 @@ ghost use Rattle.jf_hash.specs.Maps.{Map, apply};
 ghost use Rattle.jf_hash.specs.Roots.{root};
 ghost use Rattle.jf_model.specs.Batches.{key_count};
 ghost use Rattle.jf_model.specs.Forks.{batches, chain, drop_count, fork_map, is_among, parent_map};
-ghost use Rattle.jf_forks.specs.Tables.{Table, IsTable, StandsOver, forks_of, map_of_fork, fault_of_fork, missing_parent, making_fault, chain_fault, grown_without, grown_settled, RefusedBy};
+ghost use Rattle.jf_forks.specs.Tables.{Table, IsTable, StandsOver, forks_of, map_of_fork, fault_of_fork, missing_parent, making_fault, chain_fault, grown_without, grown_settled, RefusesAs};
 ghost use Rattle.jf_forks.specs.declared.fault.ForkFault.TheVariants as fault;
 
 use crate::chain::{chain_keys, chain_len, push_chain};
@@ -131,7 +131,7 @@ impl ForkTable {
         // After `Ok` the table stands over the head's map as before.
         ensures stands { OnOk result (StandsOver head.now.map self.new) }
         // It is refused if the parent is missing, else as `Full` if 1,024 are live; else only if memory runs out.
-        ensures refused { RefusedBy (making_fault parent self.old) result }
+        ensures refused { RefusesAs (making_fault parent self.old) result }
         // After a refusal the table is unchanged.
         ensures err { OnErr result (self.new ≡ self.old) }
     {
@@ -181,7 +181,7 @@ impl ForkTable {
         // After `Ok` there are 1 to 1,024 batches, with at most 10,000 keys added up.
         ensures bounded { IfOk result (λ list. (1 ≤ length list) × (length list ≤ max_forks) × (key_count list ≤ max_keys)) }
         // It is refused if the fork is missing, else as `TooMany` over 10,000 keys; else only if memory runs out.
-        ensures refused { RefusedBy (chain_fault id self.now) result }
+        ensures refused { RefusesAs (chain_fault id self.now) result }
     {
         if let Some(fault) = self.chain_fault(id) {
             return Err(fault);

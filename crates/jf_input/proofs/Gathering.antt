@@ -7,13 +7,13 @@ use Rattle.std.proofs.lemmas.List.{take-append-le, drop-append-le}
 use Rattle.std.proofs.Math.Seq.{take-append_seam, drop-append_seam}
 use Rattle.jf_io.specs.Sink.{IsCutShort}
 use Rattle.jf_io.proofs.Written.{nothing_written, written_more}
-use Rattle.jf_input.specs.Feeds.{max_gathered, Took, GoesOnQuietly, Appends, HandsOn, Gathers, IsGathered, StopsGathering, EndsAtLine}
+use Rattle.jf_input.specs.Feeds.{max_gathered, TakesLines, GoesOnQuietly, Appends, HandsOn, Gathers, IsGathered, StopsGathering, EndsAtLine}
 use Rattle.jf_input.specs.declared.feeding.Feeding.TheVariants as feeding
 
 -- ---- lines taken one after another
-took_append : {M F : Type 0} (takes : M → List ℕ → M → Result (List ℕ) F → Type 0) (old mid new : M) (ls ms : List (List ℕ)) (said more : List ℕ) → Took takes old ls mid said → Took takes mid ms new more
-    → Took takes old (ls ++ ms) new (said ++ more)
-took_append takes old mid new [] ms said more w v = subst (λ (x : List ℕ). Took takes old ms new (x ++ more)) (sym w.1) (subst (λ m. Took takes m ms new more) w.0 v)
+took_append : {M F : Type 0} (takes : M → List ℕ → M → Result (List ℕ) F → Type 0) (old mid new : M) (ls ms : List (List ℕ)) (said more : List ℕ) → TakesLines takes old ls mid said → TakesLines takes mid ms new more
+    → TakesLines takes old (ls ++ ms) new (said ++ more)
+took_append takes old mid new [] ms said more w v = subst (λ (x : List ℕ). TakesLines takes old ms new (x ++ more)) (sym w.1) (subst (λ m. TakesLines takes m ms new more) w.0 v)
 took_append takes old mid new (line ∷ ls) ms said more w v = (
   w.0,
   w.1,
@@ -24,8 +24,8 @@ took_append takes old mid new (line ∷ ls) ms said more w v = (
 )
 
 -- one line more
-took_more : {M F : Type 0} (takes : M → List ℕ → M → Result (List ℕ) F → Type 0) (old mid new : M) (ls : List (List ℕ)) (line said t : List ℕ) → Took takes old ls mid said
-    → takes mid line new (Ok t) → Took takes old (ls ++ line ∷ []) new (said ++ t)
+took_more : {M F : Type 0} (takes : M → List ℕ → M → Result (List ℕ) F → Type 0) (old mid new : M) (ls : List (List ℕ)) (line said t : List ℕ) → TakesLines takes old ls mid said
+    → takes mid line new (Ok t) → TakesLines takes old (ls ++ line ∷ []) new (said ++ t)
 took_more takes old mid new ls line said t w step = took_append takes old mid new ls (line ∷ []) said t w (new, t, [], step, (refl, refl), sym (append-nil t))
 
 -- ---- lines of which what they add is gathered
@@ -36,22 +36,22 @@ Quietly takes quiet old line new r = takes old line new r × quiet old new
 -- these lines were taken one after another, all but the first of them quiet, and this is what they add
 abbrev pub Gathered : {M F : Type 0} → (M → List ℕ → M → Result (List ℕ) F → Type 0) → (M → M → Type 0) → M → List (List ℕ) → M → List ℕ → Type 0
 Gathered takes quiet old [] new text = (new ≡ old) × (text ≡ [])
-Gathered {M} takes quiet old (line ∷ ls) new text = (mid : M) × (t : List ℕ) × (more : List ℕ) × takes old line mid (Ok t) × Took (Quietly takes quiet) mid ls new more × (text ≡ t ++ more)
+Gathered {M} takes quiet old (line ∷ ls) new text = (mid : M) × (t : List ℕ) × (more : List ℕ) × takes old line mid (Ok t) × TakesLines (Quietly takes quiet) mid ls new more × (text ≡ t ++ more)
 
 module _ {M F : Type 0} (takes : M → List ℕ → M → Result (List ℕ) F → Type 0) (quiet : M → M → Type 0) where
-  took_quietly : (old new : M) (ls : List (List ℕ)) (text : List ℕ) → Took (Quietly takes quiet) old ls new text → Took takes old ls new text
+  took_quietly : (old new : M) (ls : List (List ℕ)) (text : List ℕ) → TakesLines (Quietly takes quiet) old ls new text → TakesLines takes old ls new text
   took_quietly old new [] text w = w
   took_quietly old new (line ∷ ls) text w = (w.0, w.1, w.2, w.3.0, took_quietly w.0 new ls w.2 w.4, w.5)
 
-  took_gathered : (old new : M) (ls : List (List ℕ)) (text : List ℕ) → Gathered takes quiet old ls new text → Took takes old ls new text
+  took_gathered : (old new : M) (ls : List (List ℕ)) (text : List ℕ) → Gathered takes quiet old ls new text → TakesLines takes old ls new text
   took_gathered old new [] text w = w
   took_gathered old new (line ∷ ls) text w = (w.0, w.1, w.2, w.3, took_quietly w.0 new ls w.2 w.4, w.5)
 
-  gathered_quietly : (old new : M) (ls : List (List ℕ)) (text : List ℕ) → Took (Quietly takes quiet) old ls new text → Gathered takes quiet old ls new text
+  gathered_quietly : (old new : M) (ls : List (List ℕ)) (text : List ℕ) → TakesLines (Quietly takes quiet) old ls new text → Gathered takes quiet old ls new text
   gathered_quietly old new [] text w = w
   gathered_quietly old new (line ∷ ls) text w = (w.0, w.1, w.2, w.3.0, w.4, w.5)
 
-  goes_quietly : (old new : M) (ls : List (List ℕ)) (text : List ℕ) → Took (Quietly takes quiet) old ls new text → GoesOnQuietly takes quiet old ls new
+  goes_quietly : (old new : M) (ls : List (List ℕ)) (text : List ℕ) → TakesLines (Quietly takes quiet) old ls new text → GoesOnQuietly takes quiet old ls new
   goes_quietly old new [] text w = w.0
   goes_quietly old new (line ∷ ls) text w = (w.0, Ok w.1, w.3.0, w.3.1, goes_quietly w.0 new ls w.2 w.4)
 
@@ -77,7 +77,7 @@ module _ {M F : Type 0} (takes : M → List ℕ → M → Result (List ℕ) F �
     before : List (List ℕ)
     mid : M
     said : List ℕ
-    took : Took takes old before mid said
+    took : TakesLines takes old before mid said
     line : List ℕ
     later : List (List ℕ)
     lines_are : ls ≡ before ++ line ∷ later
@@ -155,7 +155,7 @@ pub record Keeps {M F : Type 0} (takes : M → List ℕ → M → Result (List �
   pub done : List (List ℕ)
   pub mid : M
   pub said : List ℕ
-  pub took : Took takes old done mid said
+  pub took : TakesLines takes old done mid said
   pub written : Appends text text' said
   pub kept : List (List ℕ)
   pub lines_are : ls ≡ done ++ kept
@@ -164,7 +164,7 @@ pub record Keeps {M F : Type 0} (takes : M → List ℕ → M → Result (List �
 -- these lines were taken, and all that they add is written
 pub record Written {M F : Type 0} (takes : M → List ℕ → M → Result (List ℕ) F → Type 0) (old now : M) (text text' : Option (List ℕ)) (ls : List (List ℕ)) : Type 0 where
   pub said : List ℕ
-  pub took : Took takes old ls now said
+  pub took : TakesLines takes old ls now said
   pub put : Appends text text' said
 
 -- what was gathered is cut in what a line adds
@@ -189,7 +189,7 @@ module _ {M F : Type 0} {takes : M → List ℕ → M → Result (List ℕ) F �
   pub written_all : {now : M} {text' text'' : Option (List ℕ)} {out : List ℕ} {ls : List (List ℕ)} → Keeps takes quiet old now text text' out ls → Appends text' text'' out → Written takes old now text text'' ls
   written_all {now = now} {out = out} k put = record {
     said = k.said ++ out;
-    took = subst (λ (x : List (List ℕ)). Took takes old x now (k.said ++ out)) (sym k.lines_are) (took_append takes old k.mid now k.done k.kept k.said out k.took (took_gathered takes quiet k.mid now k.kept out k.gathered));
+    took = subst (λ (x : List (List ℕ)). TakesLines takes old x now (k.said ++ out)) (sym k.lines_are) (took_append takes old k.mid now k.done k.kept k.said out k.took (took_gathered takes quiet k.mid now k.kept out k.gathered));
     put = put ∙ ap (option_map (λ x. x ++ out)) k.written ∙ written_more text k.said out;
   }
 

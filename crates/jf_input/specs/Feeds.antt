@@ -12,9 +12,9 @@ abbrev pub front_of_line : List ℕ → List ℕ
 front_of_line line = take (max_line + 1) line
 
 -- these lines were taken one after another, and this text is what they add
-abbrev pub Took : {M F : Type 0} → (M → List ℕ → M → Result (List ℕ) F → Type 0) → M → List (List ℕ) → M → List ℕ → Type 0
-Took takes old [] new text = (new ≡ old) × (text ≡ [])
-Took takes old (line ∷ ls) new text = (mid : _) × (t : List ℕ) × (more : List ℕ) × takes old line mid (Ok t) × Took takes mid ls new more × (text ≡ t ++ more)
+abbrev pub TakesLines : {M F : Type 0} → (M → List ℕ → M → Result (List ℕ) F → Type 0) → M → List (List ℕ) → M → List ℕ → Type 0
+TakesLines takes old [] new text = (new ≡ old) × (text ≡ [])
+TakesLines takes old (line ∷ ls) new text = (mid : _) × (t : List ℕ) × (more : List ℕ) × takes old line mid (Ok t) × TakesLines takes mid ls new more × (text ≡ t ++ more)
 
 -- whatever the effect on the machine of a line of which this is given, it is quiet
 abbrev pub IsQuietLine : {M F : Type 0} → (M → List ℕ → M → Result (List ℕ) F → Type 0) → (M → M → Type 0) → M → List ℕ → Type 0
@@ -125,7 +125,7 @@ pub record HasFed {M F : Type 0} (takes : M → List ℕ → M → Result (List 
   pub done : List (List ℕ)
   pub mid : M
   pub said : List ℕ
-  pub took : Took takes old done mid said
+  pub took : TakesLines takes old done mid said
   pub text_so_far : Option (List ℕ)
   pub written : Appends text text_so_far said
   pub ended : ((new ≡ mid) × (text' ≡ text_so_far) × EndsBetween how source source' done)

@@ -7,7 +7,7 @@ use Rattle.jf_io.specs.Lines.{lines}
 use Rattle.jf_io.specs.declared.piece.TheConstants.{MAX_PIECE}
 use Rattle.jf_text.specs.Words.{name_of, is_long}
 use Rattle.jf_text.proofs.HexText.{bytes_within-many}
-use Rattle.jf_input.specs.Feeds.{front_of_line, Took, ReadsAll, ReadsFew, HasFed}
+use Rattle.jf_input.specs.Feeds.{front_of_line, TakesLines, ReadsAll, ReadsFew, HasFed}
 use Rattle.jf_input.specs.declared.feeding.Feeding.{Feeding}
 use Rattle.jf_input.specs.declared.feeding.Feeding.TheVariants as feeding
 use Rattle.jf_input.proofs.Given.{given_alike}
@@ -81,7 +81,7 @@ record HasTaken (s : NamesSoFar) (ls : List (List ℕ)) (next : NamesSoFar) : Ty
   are : names_from s.at ls ≡ Ok names
   by_keys : next.names ≡ fold with_new_name s.names names
 
-names_from-took : (s next : NamesSoFar) (ls : List (List ℕ)) (text : List ℕ) → Took TakesName s ls next text → HasTaken s ls next
+names_from-took : (s next : NamesSoFar) (ls : List (List ℕ)) (text : List ℕ) → TakesLines TakesName s ls next text → HasTaken s ls next
 unfolding names_from
 names_from-took s next [] text took = record { names = []; are = refl; by_keys = ap (λ (m : NamesSoFar). m.names) took.0 }
 names_from-took s next (line ∷ ls) text took =
@@ -94,7 +94,7 @@ names_from-took s next (line ∷ ls) text took =
     }
 
 -- each line that was taken counts
-at-took : (s next : NamesSoFar) (ls : List (List ℕ)) (text : List ℕ) → Took TakesName s ls next text → next.at ≡ s.at + length ls
+at-took : (s next : NamesSoFar) (ls : List (List ℕ)) (text : List ℕ) → TakesLines TakesName s ls next text → next.at ≡ s.at + length ls
 at-took s next [] text took = let same : next.at ≡ s.at = ap (λ (m : NamesSoFar). m.at) took.0 in omega arith
 at-took s next (line ∷ ls) text took =
     let n = taken-name s took.0 line took.3.0 in
@@ -114,7 +114,7 @@ names_from-refused s line ls h =
     ] h
 
 -- after lines that were taken the one that is refused is named
-names_from-took_refused : (s next : NamesSoFar) (ls : List (List ℕ)) (text line : List ℕ) (behind : List (List ℕ)) → Took TakesName s ls next text → after_name_line next line ≡ None → names_from s.at (ls ++ line ∷ behind) ≡ Err next.at
+names_from-took_refused : (s next : NamesSoFar) (ls : List (List ℕ)) (text line : List ℕ) (behind : List (List ℕ)) → TakesLines TakesName s ls next text → after_name_line next line ≡ None → names_from s.at (ls ++ line ∷ behind) ≡ Err next.at
 names_from-took_refused s next [] text line behind took refused =
     names_from-refused s line behind (ap (λ (m : NamesSoFar). after_name_line m line) (sym took.0) ∙ refused) ∙ ap (λ (m : NamesSoFar). Err m.at) (sym took.0)
 names_from-took_refused s next (l ∷ ls) text line behind took refused =
@@ -126,10 +126,10 @@ module _ (start last : NamesSoFar) (begun : start ≡ no_names) (source source' 
   abbrev Read : Feeding NamesFault → Type 0
   Read how = HasFed TakesName EndsNames (λ m n. Unit {0}) MAX_PIECE how start last source source' text text'
 
-  taken_first : (how : Feeding NamesFault) (f : Read how) → Took TakesName no_names f.done f.mid f.said
-  taken_first how f = subst (λ (s : NamesSoFar). Took TakesName s f.done f.mid f.said) begun f.took
+  taken_first : (how : Feeding NamesFault) (f : Read how) → TakesLines TakesName no_names f.done f.mid f.said
+  taken_first how f = subst (λ (s : NamesSoFar). TakesLines TakesName s f.done f.mid f.said) begun f.took
 
-  whole : (ls : List (List ℕ)) (mid : NamesSoFar) (said : List ℕ) → Took TakesName no_names ls mid said → last ≡ mid → ReadsAll source source' ls → HasNames last.names source source'
+  whole : (ls : List (List ℕ)) (mid : NamesSoFar) (said : List ℕ) → TakesLines TakesName no_names ls mid said → last ≡ mid → ReadsAll source source' ls → HasNames last.names source source'
   unfolding names_by_key
   whole ls mid said took same reads =
       let t = names_from-took no_names mid ls said took in

@@ -23,13 +23,13 @@ use Rattle.jf_payload.proofs.RecordSpells.{IsWholeCheckpoint, whole_bytes, whole
 use Rattle.jf_payload.proofs.FieldSpells.{number_spells}
 
 -- the content of a record that was read, and the record built from it
-record Took {X : Type 0} (s : X → List ℕ) (I : X → Type 0) (view : X → Record) (bytes : List ℕ) (x : Record × List ℕ) : Type 0 where
+record TakesLines {X : Type 0} (s : X → List ℕ) (I : X → Type 0) (view : X → Record) (bytes : List ℕ) (x : Record × List ℕ) : Type 0 where
   value : X
   text : Takes bytes (s value) x.1
   sound : I value
   is : x.0 ≡ view value
 
-took : {X : Type 0} (s : X → List ℕ) (I : X → Type 0) (o : Front X) (view : X → Record) (bytes : List ℕ) (x : Record × List ℕ) → Spells s I o → AreBytes bytes → seen_as view o bytes ≡ Some x → Took s I view bytes x
+took : {X : Type 0} (s : X → List ℕ) (I : X → Type 0) (o : Front X) (view : X → Record) (bytes : List ℕ) (x : Record × List ℕ) → Spells s I o → AreBytes bytes → seen_as view o bytes ≡ Some x → TakesLines s I view bytes x
 took s I o view bytes x one bs e =
     let y = bind_some (o bytes) (λ y. Some (view y.0, y.1)) x e in
     let t = one.takes bytes y.0 bs y.1 in

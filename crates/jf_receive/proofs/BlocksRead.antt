@@ -5,7 +5,7 @@ use Rattle.jf_evidence.specs.Ranges.{Entries}
 use Rattle.jf_engine.specs.Engines.{Engine}
 use Rattle.jf_restore.specs.RestoreValue.{RestoreValue}
 use Rattle.jf_restore.specs.Finishes.{IsNewStore}
-use Rattle.jf_input.specs.Feeds.{Took, ReadsAll, ReadsFew, HasFed}
+use Rattle.jf_input.specs.Feeds.{TakesLines, ReadsAll, ReadsFew, HasFed}
 use Rattle.jf_input.specs.declared.feeding.Feeding.{Feeding}
 use Rattle.jf_input.specs.declared.feeding.Feeding.TheVariants as feeding
 use Rattle.jf_receive.specs.Chunks.{chunks, refusal_decided_by}
@@ -48,15 +48,15 @@ module _ (version : ℕ) (root : List ℕ) (start last : Restoring) (begun : sta
   abbrev Read : Feeding BlockFault → Type 0
   Read how = HasFed TakesBlockLine EndsBlockLines (λ m n. Unit {0}) restore_piece how start last source source' text text'
 
-  taken_first : (how : Feeding BlockFault) (f : Read how) → Took TakesBlockLine (first version root) f.done f.mid f.said
-  taken_first how f = subst (λ (s : Restoring). Took TakesBlockLine s f.done f.mid f.said) begun f.took
+  taken_first : (how : Feeding BlockFault) (f : Read how) → TakesLines TakesBlockLine (first version root) f.done f.mid f.said
+  taken_first how f = subst (λ (s : Restoring). TakesLines TakesBlockLine s f.done f.mid f.said) begun f.took
 
   -- ---- to the end of the input
   -- all lines of the source, which were taken
   record AllTaken : Type 0 where
     ls : List (List ℕ)
     said : List ℕ
-    took : Took TakesBlockLine (first version root) ls last said
+    took : TakesLines TakesBlockLine (first version root) ls last said
     reads : ReadsAll source source' ls
 
   all-taken : Read feeding.Done → AllTaken
@@ -64,7 +64,7 @@ module _ (version : ℕ) (root : List ℕ) (start last : Restoring) (begun : sta
     | inl b ↦ absurd b.2
     | inr e ↦ elim e [
       | inl l ↦ absurd l.2
-      | inr a ↦ record { ls = f.done; said = f.said; took = subst (λ (m : Restoring). Took TakesBlockLine (first version root) f.done m f.said) (sym a.0.1.0) (taken_first feeding.Done f); reads = a.1 }
+      | inr a ↦ record { ls = f.done; said = f.said; took = subst (λ (m : Restoring). TakesLines TakesBlockLine (first version root) f.done m f.said) (sym a.0.1.0) (taken_first feeding.Done f); reads = a.1 }
     ]
   ]
 
@@ -94,7 +94,7 @@ module _ (version : ℕ) (root : List ℕ) (start last : Restoring) (begun : sta
     mid : Restoring
     ls : List (List ℕ)
     said : List ℕ
-    took : Took TakesBlockLine (first version root) ls mid said
+    took : TakesLines TakesBlockLine (first version root) ls mid said
     line : List ℕ
     stops : TakesBlockLine mid line last (Err why)
     reads : ReadsFew restore_piece source source' (ls ++ line ∷ [])

@@ -4,7 +4,7 @@ use Rattle.std.specs.Prelude.{take, OnOk, IfErr}
 use Rattle.std.proofs.Math.Seq.{take-length}
 use Rattle.std.proofs.lemmas.List.{take-append-le, length-take-le}
 use Rattle.jf_restore.specs.RestoreValue.{RestoreValue}
-use Rattle.jf_input.specs.Feeds.{front_of_line, Took}
+use Rattle.jf_input.specs.Feeds.{front_of_line, TakesLines}
 use Rattle.jf_input.proofs.Given.{given_alike}
 use Rattle.jf_receive.specs.Chunks.{chunks, refusal_decided_by}
 use Rattle.jf_receive.specs.Laws.{RefusalsComeAtTheirLine, LongChunkLinesAreAlike}
@@ -71,13 +71,13 @@ abbrev refusal_after : Restoring → List (List ℕ) → Option BlockFault
 refusal_after s ls = refusal_at_stage (restoring_after_lines s ls).stage
 
 -- the state after the lines that were taken
-pub took-after : (s next : Restoring) (ls : List (List ℕ)) (text : List ℕ) → Took TakesBlockLine s ls next text → next ≡ restoring_after_lines s ls
+pub took-after : (s next : Restoring) (ls : List (List ℕ)) (text : List ℕ) → TakesLines TakesBlockLine s ls next text → next ≡ restoring_after_lines s ls
 unfolding restoring_after_lines
 took-after s next [] text took = took.0
 took-after s next (line ∷ ls) text took = took-after took.0 next ls took.2 took.4 ∙ ap (λ (m : Restoring). restoring_after_lines m ls) took.3.0
 
 -- nothing is refused after the first of them
-pub took-none : (s next : Restoring) (ls : List (List ℕ)) (text : List ℕ) → refusal_at_stage s.stage ≡ None → Took TakesBlockLine s ls next text → (n : ℕ) → refusal_after s (take n ls) ≡ None
+pub took-none : (s next : Restoring) (ls : List (List ℕ)) (text : List ℕ) → refusal_at_stage s.stage ≡ None → TakesLines TakesBlockLine s ls next text → (n : ℕ) → refusal_after s (take n ls) ≡ None
 unfolding restoring_after_lines
 took-none s next ls text none took zero = none
 took-none s next [] text none took (suc n) = none
@@ -92,7 +92,7 @@ abbrev pub first : ℕ → List ℕ → Restoring
 first version root = restoring_start (new_restore version root)
 
 module _ (version : ℕ) (root : List ℕ) (next : Restoring) (ls : List (List ℕ)) (text : List ℕ) where
-  module _ (took : Took TakesBlockLine (first version root) ls next text) (law : RefusalsComeAtTheirLine) where
+  module _ (took : TakesLines TakesBlockLine (first version root) ls next text) (law : RefusalsComeAtTheirLine) where
     -- after the lines that were taken nothing is decided
     pub took-undecided : refusal_decided_by (length ls) (chunks root [] ls) ≡ None
     took-undecided = sym (law (new_restore version root) ls) ∙ ap (λ xs. refusal_after (first version root) xs) (sym (take-length ls)) ∙ took-none (first version root) next ls text refl took (length ls)

@@ -2,7 +2,7 @@
 use Rattle.std.proofs.Common.{◌≡◌, inl, inr, ℕ, Option, Some, None, option_map, List, [], ◌∷◌, ◌++◌, length, refl, sym, ap, ◌∙◌, subst, arith, append_assoc, append-nil, length-append}
 use Rattle.std.specs.Prelude.{Result, Ok, Err, option_to_list}
 use Rattle.jf_io.specs.Sink.{IsCutShort}
-use Rattle.jf_input.specs.Feeds.{Appends, GoesOnQuietly, Took, EndsAtLine, EndsAfter, HasFed, ReadsLinesOf}
+use Rattle.jf_input.specs.Feeds.{Appends, GoesOnQuietly, TakesLines, EndsAtLine, EndsAfter, HasFed, ReadsLinesOf}
 use Rattle.jf_input.specs.declared.feeding.Feeding.{Feeding}
 use Rattle.jf_input.specs.declared.feeding.Feeding.TheVariants as feeding
 use Rattle.jf_input.proofs.FirstRead.{lines_of_few}
@@ -38,7 +38,7 @@ module _ (start : Start) (old : Pass) (begun : old.start ≡ Some start) (none :
   known : (m : Session) (ds : List (List ℕ)) (rs : List LineReply) → HasAnswered start old m ds rs → m.pass.start ≡ Some start
   known m ds rs a = ap (λ (p : Pass). p.start) a.same ∙ begun
 
-  is_said : (m : Session) (ds : List (List ℕ)) (so_far : Option (List ℕ)) (said : List ℕ) → Took AnswersLine (new_session old) ds m said → Appends text so_far said → IsSaid m ds so_far
+  is_said : (m : Session) (ds : List (List ℕ)) (so_far : Option (List ℕ)) (said : List ℕ) → TakesLines AnswersLine (new_session old) ds m said → Appends text so_far said → IsSaid m ds so_far
   is_said m ds so_far said took written =
       let t = took_more start old begun (new_session old) m [] ds [] said none took in
       record { replies = t.replies; answered = t.answered; said = said; said_is = t.text_is; written = written }
@@ -214,7 +214,7 @@ module _ (start : Start) (old : Pass) (begun : old.start ≡ Some start) (none :
     abbrev Quiet : M → M → Type 0
     Quiet m new = StaysQuiet (shown m) (shown new)
 
-    took_shown : (m new : M) (ls : List (List ℕ)) (said : List ℕ) → Took Takes m ls new said → Took AnswersLine (shown m) ls (shown new) said
+    took_shown : (m new : M) (ls : List (List ℕ)) (said : List ℕ) → TakesLines Takes m ls new said → TakesLines AnswersLine (shown m) ls (shown new) said
     took_shown m new [] said w = (ap shown w.0, w.1)
     took_shown m new (line ∷ ls) said w = (shown w.0, w.1, w.2, w.3, took_shown w.0 new ls w.2 w.4, w.5)
 

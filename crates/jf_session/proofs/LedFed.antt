@@ -2,7 +2,7 @@
 use Rattle.std.proofs.Common.{◌≡◌, inl, inr, ℕ, Bool, Option, None, List, [], ◌∷◌, ◌++◌, refl, sym, ap, ap₂, ◌∙◌, subst, append-nil, Some}
 use Rattle.std.specs.Prelude.{Result, Ok, Err}
 use Rattle.jf_path.proofs.OptionLaws.{some_same}
-use Rattle.jf_input.specs.Feeds.{Took, EndsAtLine, EndsAfter, HasFed}
+use Rattle.jf_input.specs.Feeds.{TakesLines, EndsAtLine, EndsAfter, HasFed}
 use Rattle.jf_input.specs.FeedsThrough.{IsPutThrough, GoesThrough}
 use Rattle.jf_input.specs.declared.feeding.Feeding.{Feeding}
 use Rattle.jf_input.specs.declared.feeding.Feeding.TheVariants as feeding
@@ -54,7 +54,7 @@ module _ {M : Type 0} (shown : M → Session) (piece : ℕ) where
   Quiet m new = StaysQuiet (shown m) (shown new)
 
   -- ---- the replies
-  took_answers : (m new : M) (ls : List (List ℕ)) (said : List ℕ) → Took Takes m ls new said → (text : List ℕ) × Took AnswersLine (shown m) ls (shown new) text
+  took_answers : (m new : M) (ls : List (List ℕ)) (said : List ℕ) → TakesLines Takes m ls new said → (text : List ℕ) × TakesLines AnswersLine (shown m) ls (shown new) text
   took_answers m new [] said w = ([], (ap shown w.0, refl))
   took_answers m new (line ∷ ls) said w =
       let l = w.3 in
@@ -104,7 +104,7 @@ module _ {M : Type 0} (shown : M → Session) (piece : ℕ) where
     text_is : said ≡ landings_text blocks
     began : (shown new).pass.start ≡ Some start
 
-  took_lands : (start : Start) (m new : M) (ls : List (List ℕ)) (said : List ℕ) → (shown m).pass.start ≡ Some start → Took Takes m ls new said → HaveLanded start m new said
+  took_lands : (start : Start) (m new : M) (ls : List (List ℕ)) (said : List ℕ) → (shown m).pass.start ≡ Some start → TakesLines Takes m ls new said → HaveLanded start m new said
   took_lands start m new [] said is w = record {
     blocks = [];
     landed = subst (λ (n : M). HasLandedMore start (shown m).pass (shown n).pass []) (sym w.0) (landed_same start (shown m).pass);

@@ -4,7 +4,7 @@ use Rattle.std.specs.Prelude.{Result, Ok, Err, slice_get, option_to_list}
 use Rattle.std.specs.List.{AllByRecursion}
 use Rattle.jf_path.proofs.OptionLaws.{some_same}
 use Rattle.jf_io.specs.LinesRead.{lines_read, AreFirst}
-use Rattle.jf_input.specs.Feeds.{GoesOnQuietly, Took, HasRead, ReadsLinesOf}
+use Rattle.jf_input.specs.Feeds.{GoesOnQuietly, TakesLines, HasRead, ReadsLinesOf}
 use Rattle.jf_store.specs.Starts.{Start}
 use Rattle.jf_store.specs.Passes.{Pass}
 use Rattle.jf_answers.specs.Explains.{LineReply, text_in}
@@ -93,7 +93,7 @@ module _ (start : Start) (old : Pass) where
     known : (m : Session) (ds : List (List ℕ)) (rs : List LineReply) → HasAnswered start old m ds rs → m.pass.start ≡ Some start
     known m ds rs a = ap (λ (p : Pass). p.start) a.same ∙ begun
 
-    pub took_more : (m new : Session) (ds ls : List (List ℕ)) (rs : List LineReply) (said : List ℕ) → HasAnswered start old m ds rs → Took AnswersLine m ls new said → HasTaken new ds ls rs said
+    pub took_more : (m new : Session) (ds ls : List (List ℕ)) (rs : List LineReply) (said : List ℕ) → HasAnswered start old m ds rs → TakesLines AnswersLine m ls new said → HasTaken new ds ls rs said
     took_more m new ds [] rs said a w = record { replies = []; answered = subst (λ (s : Session). HasAnswered start old s (ds ++ []) (rs ++ [])) (sym w.0) (none_more m ds rs a); text_is = w.1 }
     took_more m new ds (line ∷ ls) rs said a w =
         let t = makes_at start m w.0 line (Ok w.1) (known m ds rs a) w.3 in

@@ -18,7 +18,7 @@ use Rattle.jf_codec.specs.declared.format.Format.{Format}
 use Rattle.jf_standing.specs.Named.{NamedNode, is_alive, is_at, alive_nodes_at, version_at, not_stale, map_at}
 use Rattle.jf_standing.specs.Standing.{Standing, with_nodes, versions_of}
 use Rattle.jf_standing.specs.Next.{IsReadStanding}
-use Rattle.jf_standing.specs.Building.{floor_of, rebuilt, nodes_by_name, landed_on, built_standing, up_from, apart, as_named, checkpoint_of}
+use Rattle.jf_standing.specs.Building.{floor_of, rebuilt_standing, nodes_by_name, landed_on, built_standing, up_from, apart, as_named, checkpoint_of}
 use Rattle.jf_standing.specs.Sound.{IsSound}
 use Rattle.jf_standing.specs.Order.{by_name}
 use Rattle.jf_standing.specs.Taking.{GivesStanding}
@@ -65,19 +65,19 @@ module _ (fmt : Format) (s : Standing) (read : IsReadStanding s) (top : version_
       }
 
   -- the standing built anew has the maps that were read off
-  pub rebuilt-is : IsBuilt fmt (λ w. map_at w s.nodes) (version_at s.floor s.nodes) s.base s.floor s.head (rebuilt fmt s)
-  rebuilt-is =
+  pub rebuilt_standing-is : IsBuilt fmt (λ w. map_at w s.nodes) (version_at s.floor s.nodes) s.base s.floor s.head (rebuilt_standing fmt s)
+  rebuilt_standing-is =
       let high = read.floor_low in
       let end = read.head_last in
       let all : s.floor + (s.head - s.floor) ≡ s.head = omega arith in
-      subst (λ h. IsBuilt fmt (λ w. map_at w s.nodes) (version_at s.floor s.nodes) s.base s.floor h (rebuilt fmt s)) all
+      subst (λ h. IsBuilt fmt (λ w. map_at w s.nodes) (version_at s.floor s.nodes) s.base s.floor h (rebuilt_standing fmt s)) all
       (built-maps fmt (λ w. map_at w s.nodes) (version_at s.floor s.nodes) s.base s.floor (λ w. IsMap-map_at w s.nodes read.keys) (s.head - s.floor) s.floor (floor_of fmt s) (omega arith) (omega arith) (λ w up down. room w (omega arith) (omega arith)) floor_built)
 
   -- if the standing built anew has the same roots and nodes, the standing is sound
-  pub rebuilt-sound : (rebuilt fmt s).roots ≡ s.roots → nodes_by_name (rebuilt fmt s).nodes ≡ s.nodes → IsSound fmt s
-  rebuilt-sound same_roots same_nodes =
-      let t = rebuilt fmt s in
-      let is = rebuilt-is in
+  pub rebuilt_standing-sound : (rebuilt_standing fmt s).roots ≡ s.roots → nodes_by_name (rebuilt_standing fmt s).nodes ≡ s.nodes → IsSound fmt s
+  rebuilt_standing-sound same_roots same_nodes =
+      let t = rebuilt_standing fmt s in
+      let is = rebuilt_standing-is in
       let b = is.base_is in
       let f = is.floor_is in
       let h = is.head_is in
@@ -123,10 +123,10 @@ module _ (fmt : Format) (s : Standing) (read : IsReadStanding s) (sound : IsSoun
   all_room : (w : ℕ) → s.floor ≤ w → w ≤ s.head → len (map_at w s.nodes) ≤ 2 ^ 63
   all_room w low high = (sound.versions w low high).room
 
-  pub same-nodes : nodes_by_name (rebuilt fmt s).nodes ≡ s.nodes
+  pub same-nodes : nodes_by_name (rebuilt_standing fmt s).nodes ≡ s.nodes
   same-nodes =
-      let t = rebuilt fmt s in
-      let is = rebuilt-is fmt s read sound.floor_root all_room in
+      let t = rebuilt_standing fmt s in
+      let is = rebuilt_standing-is fmt s read sound.floor_root all_room in
       let f = is.floor_is in
       let h = is.head_is in
       let moved = nodes-moved fmt t is.sound in
@@ -137,7 +137,7 @@ module _ (fmt : Format) (s : Standing) (read : IsReadStanding s) (sound : IsSoun
       (Contains-permutation (nodes_by_name t.nodes) t.nodes n (IsPermutation-sym t.nodes (nodes_by_name t.nodes) moved) has))
       (λ n has. Contains-permutation t.nodes (nodes_by_name t.nodes) n moved (same-standing fmt s t sound is.sound f h (λ w low high. is.maps_are w low high) is.versions_are n has))
 
-  pub same-roots : (rebuilt fmt s).roots ≡ s.roots
+  pub same-roots : (rebuilt_standing fmt s).roots ≡ s.roots
   same-roots =
       let low = sound.floor_low in
       let base = sound.base_low in
@@ -146,10 +146,10 @@ module _ (fmt : Format) (s : Standing) (read : IsReadStanding s) (sound : IsSoun
       (drop-step (s.head - s.floor) s.roots (root (map_at s.floor s.nodes)) (omega arith) (sound.versions s.floor (omega arith) low).rooted)
 
 -- a standing that was read is sound exactly if it equals what is built anew from it
-pub checkpoint-decided : (fmt : Format) (s : Standing) → IsReadStanding s → IsSound fmt s ↔ ((version_at s.floor s.nodes [] ≡ s.floor) × ((w : ℕ) → s.floor ≤ w → w ≤ s.head → len (map_at w s.nodes) ≤ 2 ^ 63) × ((rebuilt fmt s).roots ≡ s.roots) × (nodes_by_name (rebuilt fmt s).nodes ≡ s.nodes))
+pub checkpoint-decided : (fmt : Format) (s : Standing) → IsReadStanding s → IsSound fmt s ↔ ((version_at s.floor s.nodes [] ≡ s.floor) × ((w : ℕ) → s.floor ≤ w → w ≤ s.head → len (map_at w s.nodes) ≤ 2 ^ 63) × ((rebuilt_standing fmt s).roots ≡ s.roots) × (nodes_by_name (rebuilt_standing fmt s).nodes ≡ s.nodes))
 checkpoint-decided fmt s read = (
   λ sound. (sound.floor_root, (λ w low high. (sound.versions w low high).room), same-roots fmt s read sound, same-nodes fmt s read sound),
-  λ is. rebuilt-sound fmt s read is.0 is.1 is.2 is.3,
+  λ is. rebuilt_standing-sound fmt s read is.0 is.1 is.2 is.3,
 )
 
 -- ---- the checkpoint of a sound standing

@@ -16,7 +16,7 @@ use Rattle.jf_codec.specs.declared.format.Format.TheVariants as format
 use Rattle.jf_payload.specs.Counted.{commit_in}
 use Rattle.jf_standing.specs.Order.{by_name}
 use Rattle.jf_standing.specs.Named.{NamedNode, not_stale, version_at, map_at, leaf_entries, AreEntries}
-use Rattle.jf_standing.specs.Building.{apart, as_named, nodes_by_name, landed_on, built_standing, landings_of, all_landed, node_of, floor_of, up_from, rebuilt}
+use Rattle.jf_standing.specs.Building.{apart, as_named, nodes_by_name, landed_on, built_standing, landings_of, all_landed, node_of, floor_of, up_from, rebuilt_standing}
 use Rattle.jf_standing.specs.Standing.{Standing, with_commit, with_nodes}
 use Rattle.jf_standing.specs.Landing.{landing_of, head_map}
 use Rattle.jf_standing.specs.FormatLaws.{standing_in, with_counts}
@@ -88,7 +88,7 @@ module _ (fmt : Format) where
   floor_kept_of : (s : Standing) → floor_of fmt s ≡ standing_in fmt (floor_of format.Two s)
   floor_kept_of s = ap (λ ns. with_nodes ns (floor_of format.Two s)) (floor_nodes_kept (version_at s.floor s.nodes) (nodes (map_at s.floor s.nodes)))
 
-  rebuilt_kept : (s : Standing) → rebuilt fmt s ≡ standing_in fmt (rebuilt format.Two s)
+  rebuilt_kept : (s : Standing) → rebuilt_standing fmt s ≡ standing_in fmt (rebuilt_standing format.Two s)
   rebuilt_kept s =
       let ms = map (λ w. map_at w s.nodes) (up_from (s.floor + 1) (s.head - s.floor)) in
       ap (λ t. built_standing fmt t ms) (floor_kept_of s) ∙ built_kept (floor_of format.Two s) ms
@@ -105,7 +105,7 @@ maps_same : (ns ks : List NamedNode) (ws : List ℕ) → ((w : ℕ) → map_at w
 maps_same ns ks [] same = refl
 maps_same ns ks (w ∷ ws) same = ap₂ (λ m ms. m ∷ ms) (same w) (maps_same ns ks ws same)
 
-rebuilt_same : (fmt : Format) (s : Standing) (ns : List NamedNode) → ((w : ℕ) → map_at w ns ≡ map_at w s.nodes) → ((w : ℕ) (p : Path) → version_at w ns p ≡ version_at w s.nodes p) → rebuilt fmt (with_nodes ns s) ≡ rebuilt fmt s
+rebuilt_same : (fmt : Format) (s : Standing) (ns : List NamedNode) → ((w : ℕ) → map_at w ns ≡ map_at w s.nodes) → ((w : ℕ) (p : Path) → version_at w ns p ≡ version_at w s.nodes p) → rebuilt_standing fmt (with_nodes ns s) ≡ rebuilt_standing fmt s
 rebuilt_same fmt s ns maps versions =
     ap₂ (λ t ms. built_standing fmt t ms)
     (ap₂ (λ m ks. record { base = s.base; floor = s.floor; head = s.floor; roots = root m ∷ drop (s.head - s.floor + 1) s.roots; nodes = ks }) (maps s.floor)
@@ -121,7 +121,7 @@ module _ (fmt : Format) (s : Standing) (read : IsReadStanding s) (sound : IsSoun
   nodes_are : map (named_in_format fmt) (with_counts s).nodes ≡ s.nodes
   nodes_are =
       let facts = (checkpoint-decided fmt s read).0 sound in
-      sym (by_name_kept fmt (rebuilt format.Two s).nodes) ∙ ap (λ (t : Standing). nodes_by_name t.nodes) (sym (rebuilt_kept fmt s)) ∙ facts.3
+      sym (by_name_kept fmt (rebuilt_standing format.Two s).nodes) ∙ ap (λ (t : Standing). nodes_by_name t.nodes) (sym (rebuilt_kept fmt s)) ∙ facts.3
 
   maps_are : (w : ℕ) → map_at w (with_counts s).nodes ≡ map_at w s.nodes
   maps_are w = sym (map_kept fmt w (with_counts s).nodes) ∙ ap (map_at w) nodes_are

@@ -8,7 +8,7 @@ use Rattle.jf_standing.specs.Named.{NamedNode, version_at, map_at}
 use Rattle.jf_standing.specs.Standing.{Standing, down_from}
 use Rattle.jf_standing.specs.Same.{same_name, same_node}
 use Rattle.jf_standing.specs.Next.{IsReadStanding}
-use Rattle.jf_standing.specs.Building.{rebuilt, nodes_by_name}
+use Rattle.jf_standing.specs.Building.{rebuilt_standing, nodes_by_name}
 use Rattle.jf_payload.specs.declared.records.Record.{Record}
 use Rattle.jf_payload.specs.declared.records.Record.TheVariants as «record»
 
@@ -23,7 +23,7 @@ has_room s = list_all (λ w. nat_le (len (map_at w s.nodes)) (2 ^ 63)) (down_fro
 -- whether the nodes are those built anew from the maps and versions that are read off them
 abbrev pub is_rebuilt : Format → Standing → Bool
 is_rebuilt fmt s =
-    (version_at s.floor s.nodes [] == s.floor) && (has_room s && (pointwise bytes_eq (rebuilt fmt s).roots s.roots && pointwise same_named (nodes_by_name (rebuilt fmt s).nodes) s.nodes))
+    (version_at s.floor s.nodes [] == s.floor) && (has_room s && (pointwise bytes_eq (rebuilt_standing fmt s).roots s.roots && pointwise same_named (nodes_by_name (rebuilt_standing fmt s).nodes) s.nodes))
 
 -- the standing, if its nodes are those built anew
 abbrev pub if_rebuilt : Format → Standing → Option Standing

@@ -62,8 +62,8 @@ abbrev pub floor_of : Format → Standing → Standing
 floor_of fmt s = floor_standing fmt s.base s.floor (root (map_at s.floor s.nodes) ∷ drop (s.head - s.floor + 1) s.roots) (map_at s.floor s.nodes) (version_at s.floor s.nodes)
 
 -- a standing built anew: each later map is landed on its floor, one after another
-abbrev pub rebuilt : Format → Standing → Standing
-rebuilt fmt s = built_standing fmt (floor_of fmt s) (map (λ w. map_at w s.nodes) (up_from (s.floor + 1) (s.head - s.floor)))
+abbrev pub rebuilt_standing : Format → Standing → Standing
+rebuilt_standing fmt s = built_standing fmt (floor_of fmt s) (map (λ w. map_at w s.nodes) (up_from (s.floor + 1) (s.head - s.floor)))
 
 -- a named node as a name and a value
 abbrev pub apart : NamedNode → NodeName × (PlainNode × ℕ)

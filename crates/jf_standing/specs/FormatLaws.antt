@@ -9,7 +9,7 @@ use Rattle.jf_standing.specs.Standing.{Standing, versions_of, with_nodes, with_c
 use Rattle.jf_standing.specs.Sound.{IsSound}
 use Rattle.jf_standing.specs.Next.{IsReadStanding}
 use Rattle.jf_standing.specs.Landing.{landing_of}
-use Rattle.jf_standing.specs.Building.{landings_of, all_landed, rebuilt, nodes_by_name}
+use Rattle.jf_standing.specs.Building.{landings_of, all_landed, rebuilt_standing, nodes_by_name}
 
 -- what a format keeps of a standing with counts: format 1 leaves the counts out
 abbrev pub standing_in : Format → Standing → Standing
@@ -35,7 +35,7 @@ FormatsGroup =
 
 -- a standing with counts: its nodes, built anew in format 2
 abbrev pub with_counts : Standing → Standing
-with_counts s = with_nodes (nodes_by_name (rebuilt format.Two s).nodes) s
+with_counts s = with_nodes (nodes_by_name (rebuilt_standing format.Two s).nodes) s
 
 -- a sound standing that was read is what its format keeps of it with counts, and with counts it is sound as well
 abbrev pub FormatsAreKept : Type 0

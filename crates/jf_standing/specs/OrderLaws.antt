@@ -14,7 +14,7 @@ use Rattle.jf_standing.specs.Named.{NamedNode, version_at, map_at, not_stale, le
 use Rattle.jf_standing.specs.Standing.{Standing, versions_of, with_nodes}
 use Rattle.jf_standing.specs.Sound.{IsSound}
 use Rattle.jf_standing.specs.Taking.{GivesStanding}
-use Rattle.jf_standing.specs.Building.{nodes_by_name, checkpoint_of, rebuilt, built_standing, imported_standing, new_standing}
+use Rattle.jf_standing.specs.Building.{nodes_by_name, checkpoint_of, rebuilt_standing, built_standing, imported_standing, new_standing}
 use Rattle.jf_standing.specs.Next.{IsReadStanding}
 
 -- what nodes represent does not depend on their order
@@ -31,7 +31,7 @@ CheckpointsGive =
 abbrev pub CheckpointsAreDecided : Type 0
 CheckpointsAreDecided =
     (fmt : Format) (s : Standing) → IsReadStanding s
-    → IsSound fmt s ↔ ((version_at s.floor s.nodes [] ≡ s.floor) × ((w : ℕ) → s.floor ≤ w → w ≤ s.head → len (map_at w s.nodes) ≤ 2 ^ 63) × ((rebuilt fmt s).roots ≡ s.roots) × (nodes_by_name (rebuilt fmt s).nodes ≡ s.nodes))
+    → IsSound fmt s ↔ ((version_at s.floor s.nodes [] ≡ s.floor) × ((w : ℕ) → s.floor ≤ w → w ≤ s.head → len (map_at w s.nodes) ≤ 2 ^ 63) × ((rebuilt_standing fmt s).roots ≡ s.roots) × (nodes_by_name (rebuilt_standing fmt s).nodes ≡ s.nodes))
 
 -- a sound standing follows from its maps and the versions of the nodes at its floor
 abbrev pub OneStanding : Type 0

@@ -96,7 +96,10 @@ fn are_short(entries: &[(Key, SharedBytes)]) -> bool
 }
 
 // The snapshot of the entries as the map of version 2, or why there is none.
-fn rebuilt(alloc: Global, versions: &[u64]) -> Result<Box<Result<Snapshot, RebuildFault>>, Fail> {
+fn rebuilt_snapshot(
+    alloc: Global,
+    versions: &[u64],
+) -> Result<Box<Result<Snapshot, RebuildFault>>, Fail> {
     let entries = entries_of(alloc, ENTRIES)?;
     if !is_rising(&entries) || !are_short(&entries) {
         return Err(Fail::new("no map has these entries"));
@@ -108,7 +111,7 @@ fn rebuilt(alloc: Global, versions: &[u64]) -> Result<Box<Result<Snapshot, Rebui
 
 // Whether the versions are refused.
 fn is_refused(alloc: Global, versions: &[u64]) -> Result<bool, Fail> {
-    let built = rebuilt(alloc, versions)?;
+    let built = rebuilt_snapshot(alloc, versions)?;
     match &*built {
         Ok(_) => Ok(false),
         Err(fault) => Ok(*fault == RebuildFault::Versions),
@@ -117,7 +120,7 @@ fn is_refused(alloc: Global, versions: &[u64]) -> Result<bool, Fail> {
 
 // Whether a snapshot with the same root and the versions of the nodes is built.
 fn is_rebuilt(alloc: Global, update: &Update) -> Result<bool, Fail> {
-    let built = rebuilt(alloc, VERSIONS)?;
+    let built = rebuilt_snapshot(alloc, VERSIONS)?;
     match &*built {
         Ok(snapshot) => {
             Ok(snapshot.root() == update.root && has_versions(alloc, snapshot, VERSIONS)?)

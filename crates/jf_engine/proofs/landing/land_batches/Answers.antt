@@ -5,7 +5,7 @@ use Rattle.std.specs.List.{AllByRecursion}
 use Rattle.jf_codec.specs.declared.format.Format.TheVariants as format
 use Rattle.jf_payload.specs.Spelling.{IsCommit}
 use Rattle.jf_standing.specs.Standing.{Standing}
-use Rattle.jf_engine.specs.Landings.{LandedBy}
+use Rattle.jf_engine.specs.Landings.{LandsCommits}
 use Rattle.jf_engine.proofs.Landings.{after_next, at_end, first_kept, record-spelled}
 use Rattle.jf_engine.proofs.landing.land_batches.Goals as goal
 
@@ -14,7 +14,7 @@ take_back-requires g c =
     let dir = c.args.directory.now in
     let kept = c.in-Err.ensures.kept in
     let count : c.len-landed.result ≡ length c.loop-batch.landings.items = search rules in
-    let by = subst (λ (t : Standing). LandedBy dir (reverse c.loop-batch.landings.items) t) (sym c.in-Err.ensures.err) c.loop-batch.invariant.back in
+    let by = subst (λ (t : Standing). LandsCommits dir (reverse c.loop-batch.landings.items) t) (sym c.in-Err.ensures.err) c.loop-batch.invariant.back in
     record { made = (dir, first_kept dir c.land_next.new.directory c.loop-batch.landings.items c.deref.result.now kept.0 c.len-landed.result (c.deref.ensures.value ∙ kept.1) count by) }
 
 pub returns-in-Err-clause-err : goal.returns-in-Err-clause-err
@@ -22,7 +22,7 @@ returns-in-Err-clause-err g c =
     let dir = c.args.directory.now in
     let kept = c.in-Err.ensures.kept in
     let count : c.len-landed.result ≡ length c.loop-batch.landings.items = search rules in
-    let by = subst (λ (t : Standing). LandedBy dir (reverse c.loop-batch.landings.items) t) (sym c.in-Err.ensures.err) c.loop-batch.invariant.back in
+    let by = subst (λ (t : Standing). LandsCommits dir (reverse c.loop-batch.landings.items) t) (sym c.in-Err.ensures.err) c.loop-batch.invariant.back in
     c.take_back.ensures dir (first_kept dir c.land_next.new.directory c.loop-batch.landings.items c.deref.result.now kept.0 c.len-landed.result (c.deref.ensures.value ∙ kept.1) count by)
 
 pub loop-batch-preserved : goal.loop-batch-preserved
