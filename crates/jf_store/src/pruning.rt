@@ -23,7 +23,7 @@ use std::sync::Wait;
 // of the board, and is unchanged.
 fn sweep(pruner: &mut Pruner, board: &Board, own: &mut Place, bound: u64) -> Scan
     requires pruner { pruner.old.board ≡ board.now }
-    requires place { own.old.board ≡ board.now }
+    requires own { own.old.board ≡ board.now }
     requires up { pruner.old.known.gate ≤ bound }
     ensures swept { HasSwept own.old.known pruner.old pruner.new bound result.low result.held }
     ensures own { own.new ≡ own.old }
