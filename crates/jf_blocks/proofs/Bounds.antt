@@ -1,4 +1,4 @@
--- A reading counts the lines that it takes: the number of the line grows by as many as remain fewer.
+-- A reading goes on from its first line: each line that it takes is one less to come, and adds one to the number of the line. Where it fails, no line before the first is named.
 use Rattle.std.proofs.Common.{◌≡◌, ◌≤◌, ◌+◌, ◌∙◌, length, Ok, Err, arith, ℕ, List, ◌∷◌, Option, Some, None, [], zero, suc}
 use Rattle.jf_blocks.specs.Reading.{LinePlace, ReadResult, gives, and_then, one_line_read, line_read, line_by, lines_by, Block, named_of, claim_of, leaf_line_of, side_of, proof_block, Chunk, entry_of, chunk_body}
 use Rattle.jf_blocks.specs.declared.chunk.ChunkHead.{ChunkHead}

@@ -12,11 +12,11 @@ use Rattle.jf_payload.specs.Reading.{spelled_record}
 use Rattle.jf_standing.specs.Standing.{Standing, versions_of}
 use Rattle.jf_standing.specs.Leading.{LeadingItem, AllLead, OneFailsAt}
 
--- a framed record as it is read in a format: its offset, and the record that its payload spells, or None
+-- a record of a log as it is read in a format: its offset, and the record that its payload spells, or None
 abbrev pub item : Format → LogRecord → LeadingItem
 item fmt x = (x.offset, spelled_record fmt x.kind x.payload)
 
--- framed records as they are read, in order
+-- records of a log as they are read, in order
 abbrev pub items : Format → List LogRecord → List LeadingItem
 items fmt xs = map (item fmt) xs
 
