@@ -1,3 +1,4 @@
+pub mod Storages
 pub mod Limits
 pub mod Keys
 pub mod Nibbles

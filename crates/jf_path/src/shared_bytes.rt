@@ -1,5 +1,6 @@
 // Bytes that several owners share.
 ghost use Rattle.std.specs.Prelude.{◌≡◌, length, IfOk};
+ghost use Rattle.jf_path.specs.Storages.{IsStorage, stored_bytes};
 
 use crate::bytes::Bytes;
 use crate::memory::Memory;
@@ -7,10 +8,20 @@ use std::alloc::Global;
 use std::marker::Model;
 use std::sync::Arc;
 
+/// The most bytes that lie in one block of memory with the number of their owners.
+const SHORT: usize = 38;
+
+/// What owners share: up to 38 bytes at the place itself, or more bytes that lie elsewhere.
+#[derive(Debug, Drop)]
+pub(crate) enum Storage {
+    Short { bytes: [u8; SHORT], len: u8 },
+    Long { bytes: Bytes },
+}
+
 /// Bytes that don't change and that several owners share. They are freed with their last owner.
 #[derive(Debug, Drop)]
 pub struct SharedBytes {
-    bytes: Arc<Bytes, Global>,
+    storage: Arc<Storage, Global>,
 }
 
 impl Model for SharedBytes {
@@ -18,17 +29,24 @@ impl Model for SharedBytes {
 
     ghost Value = { List ℕ };
 
-    ghost view = { λ b. b.bytes.value };
+    ghost use Rattle.jf_path.specs.Storages.{IsStorage, stored_bytes};
+
+    ghost view = { λ b. stored_bytes b.storage.value };
+
+    ghost invariant = { λ b. IsStorage b.storage.value };
 }
 
 impl SharedBytes {
-    /// These bytes, which are taken over and not copied. If memory runs out, they are dropped.
+    /// These bytes, which are taken over; up to 38 bytes are copied. If memory runs out, they are dropped.
     pub fn of(alloc: Global, bytes: Bytes) -> Result<SharedBytes, Memory>
         // After Ok, the result has these bytes.
         ensures { IfOk result (λ b. b ≡ bytes) }
     {
+        if bytes.len() <= SHORT as u64 {
+            return SharedBytes::copy_of(alloc, bytes.as_slice());
+        }
         Ok(SharedBytes {
-            bytes: Arc::new(alloc, bytes)?,
+            storage: Arc::new(alloc, Storage::Long { bytes })?,
         })
     }
 
@@ -37,7 +55,9 @@ impl SharedBytes {
         // After Ok, the result has the same bytes as `from`.
         ensures { IfOk result (λ b. b ≡ from.now) }
     {
-        SharedBytes::of(alloc, Bytes::copy_of(alloc, from)?)
+        Ok(SharedBytes {
+            storage: Arc::new(alloc, storage_of(alloc, from)?)?,
+        })
     }
 
     /// One more owner of the same bytes. Nothing is copied.
@@ -46,7 +66,7 @@ impl SharedBytes {
         ensures { IfOk result (λ b. b ≡ self.now) }
     {
         Ok(SharedBytes {
-            bytes: Arc::try_clone(&self.bytes)?,
+            storage: Arc::try_clone(&self.storage)?,
         })
     }
 
@@ -55,7 +75,7 @@ impl SharedBytes {
         // The result is the number of bytes.
         ensures { result ≡ length self.now }
     {
-        self.bytes.len()
+        self.as_slice().len() as u64
     }
 
     /// The bytes.
@@ -63,6 +83,27 @@ impl SharedBytes {
         // The slice holds the bytes.
         ensures { result.now ≡ self.now }
     {
-        self.bytes.as_slice()
+        match &*self.storage {
+            Storage::Short { bytes, len } => &bytes[..*len as usize],
+            Storage::Long { bytes } => bytes.as_slice(),
+        }
     }
+}
+
+// A copy of these bytes, which lies at the place itself if they are at most 38.
+fn storage_of(alloc: Global, from: &[u8]) -> Result<Storage, Memory>
+    ensures storage { IfOk result IsStorage }
+    ensures bytes { IfOk result (λ b. stored_bytes b ≡ from.now) }
+{
+    if from.len() > SHORT {
+        return Ok(Storage::Long {
+            bytes: Bytes::copy_of(alloc, from)?,
+        });
+    }
+    let mut bytes = [0; SHORT];
+    bytes[..from.len()].copy_from_slice(from);
+    Ok(Storage::Short {
+        bytes,
+        len: from.len() as u8,
+    })
 }

@@ -36,7 +36,7 @@ impl<D: Disk> Session<D> {
         }
     }
 
-    // Answers `put`: in what is pending, the key of the name has this value, which is taken over and not copied.
+    // Answers `put`: in what is pending, the key of the name has this value, which is taken over.
     pub(crate) fn put(&mut self, alloc: Global, name: &[u8], value: Bytes) -> Result<Reply, Stop>
         requires over { self.old.over ≡ false }
         requires short { length value ≤ max_value }

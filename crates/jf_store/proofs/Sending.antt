@@ -5,6 +5,7 @@ use denote.Struct.Declared.{shape}
 use denote.Param.Send.{IsSend, IsSync, AllSend, AllSync, view_send, view_sync, recorded_send, recorded_sync, struct_send, struct_sync, sendable}
 use Rattle.std.proofs.Crossing.{crosses}
 use Rattle.std.proofs.MapsCrossingOver as sets
+use Rattle.jf_path.specs.contracts.shared_bytes.SharedBytes as SharedBytes
 use Rattle.jf_model.proofs.entries.Entry.TheSendSync as Entry
 use Rattle.jf_disk.specs.declared.disk.Disk.{Ghosts}
 use Rattle.jf_node.proofs.link.Branches.TheLaws.TheKnot as links
@@ -64,8 +65,11 @@ Snapshot-send = search (sendable, Link-send) depth 20
 SpecTree-send : IsSend SpecTree.the_row
 SpecTree-send = search (sendable, Node-send) depth 20
 
+SharedBytes-send : IsSend SharedBytes.the_row
+SharedBytes-send = search (sendable, crosses) depth 20
+
 ForkTable-send : IsSend ForkTable.the_row
-ForkTable-send = search (sendable, crosses, SpecTree-send) depth 40
+ForkTable-send = search (sendable, crosses, SpecTree-send, SharedBytes-send) depth 40
 
 Pruner-send : IsSend Pruner.the_row
 Pruner-send = pruners.the_send

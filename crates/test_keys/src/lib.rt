@@ -11,3 +11,5 @@ mod lists;
 mod paths;
 #[cfg(test)]
 mod ranges;
+#[cfg(test)]
+mod shared_bytes;
