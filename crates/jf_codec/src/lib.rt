@@ -20,4 +20,4 @@ pub use laws::{one_name_in_front, one_node_in_front, one_spelling};
 pub use length::{name_len, node_len};
 pub use name::{decode_name, encode_name, name_at, put_name};
 pub use reading::{decode_node, decode_whole, node_at};
-pub use writing::{encode_node, put_leaf, put_node};
+pub use writing::{encode_node, put_inner, put_leaf, put_node};

@@ -84,7 +84,7 @@ fn children_of(
 ) -> Result<(Children, &[u8]), CodecFault>
     ensures { ReadsGivenMemory (λ x. (x.0, x.1.now)) result (children_at format bits.exist bits.leaf 16 0 bytes.now) }
 {
-    let mut children = Children::new(alloc);
+    let mut children = Children::with_capacity(alloc, u64::from(bits.exist.count_ones()))?;
     let mut rest = bytes;
     for i in 0..16 {
         if !has(bits.exist, i) {

@@ -99,9 +99,10 @@ fn put_children(out: &mut Bytes, format: Format, children: &[Child]) -> Result<(
     Ok(())
 }
 
-// Adds an internal node.
+/// Adds the spelling of an internal node with these children in a format; format 1 leaves out their counts. If memory runs
+/// out, what was in `out` is unchanged, but a part of the node may follow it.
 #[tactic(auto, using(crate::proofs::Adding::keeps_same, crate::proofs::Adding::keeps_more), unfolding(crate::specs::Spelling::node_bytes))]
-fn put_inner(out: &mut Bytes, format: Format, children: &[Child]) -> Result<(), Memory>
+pub fn put_inner(out: &mut Bytes, format: Format, children: &[Child]) -> Result<(), Memory>
     requires sorted { ChildrenRiseFrom 0 children.now }
     requires nibbles { AllByRecursion (λ c. c.nibble < 16) children.now }
     ensures ok { OnOk result (out.new ≡ out.old ++ node_bytes format (node.Inner children.now)) }

@@ -58,6 +58,14 @@ impl Children {
         })
     }
 
+    /// Drops all children, and keeps their room.
+    pub fn clear(&mut self)
+        // No children are left.
+        ensures { self.new ≡ [] }
+    {
+        self.children.clear();
+    }
+
     /// The number of children.
     pub fn len(&self) -> u64
         // The result is the number of children.

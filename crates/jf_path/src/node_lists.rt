@@ -1,5 +1,5 @@
 // Lists of named nodes, and lists of names alone.
-ghost use Rattle.std.specs.Prelude.{◌≡◌, [], ◌∷◌, ◌++◌, length, map, IsTrue, OnOk, OnErr};
+ghost use Rattle.std.specs.Prelude.{◌≡◌, [], ◌∷◌, ◌++◌, length, map, IsTrue, IfOk, OnOk, OnErr};
 ghost use Rattle.jf_path.specs.Names.{are_rising};
 
 use crate::memory::Memory;
@@ -37,6 +37,16 @@ impl FreshList {
         FreshList {
             nodes: Vec::new(alloc),
         }
+    }
+
+    /// An empty list with room for `n` nodes.
+    pub fn with_capacity(alloc: Global, n: u64) -> Result<FreshList, Memory>
+        // After Ok, the result has no nodes.
+        ensures { IfOk result (λ l. l ≡ []) }
+    {
+        Ok(FreshList {
+            nodes: Vec::with_capacity(alloc, n as usize)?,
+        })
     }
 
     /// These nodes, whose names rise. They are taken over and not copied.
@@ -111,6 +121,16 @@ impl NameList {
         }
     }
 
+    /// An empty list with room for `n` names.
+    pub fn with_capacity(alloc: Global, n: u64) -> Result<NameList, Memory>
+        // After Ok, the result has no names.
+        ensures { IfOk result (λ l. l ≡ []) }
+    {
+        Ok(NameList {
+            names: Vec::with_capacity(alloc, n as usize)?,
+        })
+    }
+
     /// These names, which rise. They are taken over and not copied.
     pub fn of(names: Vec<NodeName>) -> NameList
         // The names rise strictly.
@@ -178,6 +198,16 @@ impl LiveList {
         LiveList {
             nodes: Vec::new(alloc),
         }
+    }
+
+    /// An empty list with room for `n` nodes.
+    pub fn with_capacity(alloc: Global, n: u64) -> Result<LiveList, Memory>
+        // After Ok, the result has no nodes.
+        ensures { IfOk result (λ l. l ≡ []) }
+    {
+        Ok(LiveList {
+            nodes: Vec::with_capacity(alloc, n as usize)?,
+        })
     }
 
     /// The number of elements.

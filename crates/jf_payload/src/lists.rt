@@ -1,5 +1,5 @@
 // A list is the number of its items and then the items; in lists of names or nodes the names rise strictly.
-ghost use Rattle.std.specs.Prelude.{◌≡◌, []};
+ghost use Rattle.std.specs.Prelude.{◌≡◌, ◌*◌, ◌<◌, ◌≤◌, [], length};
 ghost use Rattle.jf_path.specs.Names.{are_rising};
 ghost use Rattle.jf_payload.specs.Reading.{Gives, many_at, named_at, hash_at, fresh_at, live_at, any_hashes, fresh_rise, live_rise, fresh_list_at, name_list_at, live_list_at};
 
@@ -10,6 +10,16 @@ use jf_codec::Format;
 use jf_path::{FreshList, HashList, LiveList, NameList, NodeName, PlainNode};
 use std::alloc::Global;
 
+// For how many items room is taken: `count`, but no more than these bytes can have, of which an item takes so many or more.
+// So a list isn't moved as it grows, and a count that is wrong takes no more room than the bytes allow.
+fn room_for(count: u64, least: usize, bytes: &[u8]) -> u64
+    requires { 0 < least }
+    ensures count { result ≤ count }
+    ensures bounded { result * least ≤ length bytes.now }
+{
+    count.min((bytes.len() / least) as u64)
+}
+
 /// `count` hashes.
 pub(crate) fn hashes_of(
     alloc: Global,
@@ -18,7 +28,7 @@ pub(crate) fn hashes_of(
 ) -> Result<(HashList, &[u8]), RecordFault>
     ensures { Gives (λ x. (x.0, x.1.now)) result (many_at any_hashes hash_at count [] bytes.now) }
 {
-    let mut hashes = HashList::new(alloc);
+    let mut hashes = HashList::with_capacity(alloc, room_for(count, 32, bytes))?;
     let mut rest = bytes;
     for _ in 0..count {
         let (hash, after) = hash_of(rest)?;
@@ -32,7 +42,7 @@ pub(crate) fn hashes_of(
 fn names_of(alloc: Global, count: u64, bytes: &[u8]) -> Result<(NameList, &[u8]), RecordFault>
     ensures { Gives (λ x. (x.0, x.1.now)) result (many_at are_rising named_at count [] bytes.now) }
 {
-    let mut names = NameList::new(alloc);
+    let mut names = NameList::with_capacity(alloc, room_for(count, 9, bytes))?;
     let mut rest = bytes;
     for _ in 0..count {
         match name_of(rest) {
@@ -73,7 +83,8 @@ fn fresh_of(
     }
 }
 
-// `count` nodes, whose names rise.
+// `count` nodes, whose names rise. A name has 9 bytes or more, a leaf 37, and an inner node more; the root of the empty map
+// has one, and stands alone.
 fn fresh_nodes_of(
     alloc: Global,
     format: Format,
@@ -82,7 +93,7 @@ fn fresh_nodes_of(
 ) -> Result<(FreshList, &[u8]), RecordFault>
     ensures { Gives (λ x. (x.0, x.1.now)) result (many_at fresh_rise (fresh_at format) count [] bytes.now) }
 {
-    let mut nodes = FreshList::new(alloc);
+    let mut nodes = FreshList::with_capacity(alloc, room_for(count, 46, bytes))?;
     let mut rest = bytes;
     for _ in 0..count {
         let (item, after) = fresh_of(alloc, format, rest)?;
@@ -133,7 +144,7 @@ fn live_nodes_of(
 ) -> Result<(LiveList, &[u8]), RecordFault>
     ensures { Gives (λ x. (x.0, x.1.now)) result (many_at live_rise (live_at format) count [] bytes.now) }
 {
-    let mut nodes = LiveList::new(alloc);
+    let mut nodes = LiveList::with_capacity(alloc, room_for(count, 54, bytes))?;
     let mut rest = bytes;
     for _ in 0..count {
         let (item, after) = live_of(alloc, format, rest)?;

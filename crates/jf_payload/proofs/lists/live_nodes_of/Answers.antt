@@ -7,7 +7,7 @@ use Rattle.jf_payload.proofs.lists.live_nodes_of.Goals as goal
 
 pub returns-in_err-item : goal.returns-in_err-item
 returns-in_err-item c =
-    let p = err_from_is_err_and c.from_residual.result c.from_residual.ensures.1 in
+    let p = err_from_is_err_and c.from_residual-in_err-item.result c.from_residual-in_err-item.ensures.1 in
     rw (p.1, p.2) (ends live_rise (live_at c.args.format) c.loop.nodes c.args.count c.loop.counter c.loop.rest.now (many_at live_rise (live_at c.args.format) c.args.count [] c.args.bytes.now) c.loop.invariant.same c.in_err-item.field-0.0 c.loop-test.true c.in_err-item.ensures)
 
 pub returns-in_err-push_live : goal.returns-in_err-push_live

@@ -11,7 +11,7 @@ returns-in-Err c = ends are_rising named_at c.loop.names c.args.count c.loop.cou
 
 pub returns-in_err-push_name-in-Ok : goal.returns-in_err-push_name-in-Ok
 returns-in_err-push_name-in-Ok c =
-    let p = err_from_is_err_and c.from_residual.result c.from_residual.ensures.1 in
+    let p = err_from_is_err_and c.from_residual-in_err-push_name-in-Ok.result c.from_residual-in_err-push_name-in-Ok.ensures.1 in
     rw (p.1, p.2) (ends_after are_rising named_at c.loop.names c.args.count c.loop.counter c.loop.rest.now (many_at are_rising named_at c.args.count [] c.args.bytes.now) c.loop.invariant c.in_err-push_name-in-Ok.field-0.0 c.in-Ok.name c.in-Ok.after.now c.loop-test.true c.in-Ok.ensures (λ is. c.in_err-push_name-in-Ok.ensures.bad (ap Err is)))
 
 pub loop-preserved : goal.loop-preserved
