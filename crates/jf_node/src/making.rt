@@ -68,7 +68,6 @@ impl Link {
             Body {
                 version,
                 depth,
-                count: 1,
                 hash,
                 form: Form::Leaf {
                     key: *key,
@@ -276,9 +275,12 @@ impl Link {
             Body {
                 version,
                 depth,
-                count,
                 hash,
-                form: Form::Inner { children, ranges },
+                form: Form::Inner {
+                    children,
+                    ranges,
+                    count,
+                },
             },
         )?;
         Ok(Link { node })
