@@ -21,4 +21,4 @@ pub use gone::{list_all_nodes, list_stale_nodes};
 pub use landing::landing_lists;
 pub use lists::Written;
 pub use named_nodes::NamedNodes;
-pub use plain_node::plain_of;
+pub use plain_node::{children_into, plain_of};

@@ -4,6 +4,8 @@ ghost use Rattle.std.specs.Prelude.{◌≡◌, ◌<◌, ◌++◌, ◌∷◌, [],
 ghost use Rattle.std.specs.List.{AllByRecursion};
 ghost use Rattle.std.specs.Option.{option_copied};
 ghost use Rattle.jf_path.specs.Names.{are_rising};
+ghost use Rattle.jf_path.specs.declared.name.NodeName.{NodeName};
+ghost use Rattle.jf_path.specs.declared.node.PlainNode.{PlainNode};
 ghost use Rattle.jf_codec.specs.Spelling.{IsNode};
 ghost use Rattle.jf_codec.specs.Counted.{in_format};
 ghost use Rattle.jf_payload.specs.Spelling.{fresh_bytes};
@@ -13,7 +15,7 @@ use crate::plain_bytes::{plain_len, put_plain};
 use crate::plain_node::plain_if;
 use jf_codec::{Format, name_len, put_name};
 use jf_node::Link;
-use jf_path::{Bytes, FreshList, Memory, NodeName, PlainNode};
+use jf_path::{Bytes, Children, FreshList, Memory, NodeName, PlainNode};
 use jf_payload::sum_within;
 use std::alloc::Global;
 use std::marker::Model;
@@ -88,9 +90,10 @@ fn put_each(
     requires { AllByRecursion (λ x. IsNode format (in_format format x.1)) (map plain_item nodes.now) }
     ensures { OnOk result (out.new ≡ out.old ++ flat_map (fresh_bytes format) (map plain_item nodes.now)) }
 {
+    let mut list = Children::with_capacity(alloc, 16)?;
     for item in nodes {
         put_name(out, &item.0)?;
-        put_plain(alloc, out, format, &item.1)?;
+        put_plain(out, format, &item.1, &mut list)?;
     }
     Ok(())
 }
@@ -137,6 +140,16 @@ impl NamedNodes {
         let NamedNodes { mut nodes } = other;
         self.nodes.append(&mut nodes)?;
         Ok(())
+    }
+
+    /// The node at a place with its name, as it is shared.
+    pub fn item(&self, place: usize) -> &(NodeName, Option<Link>)
+        // There is a node at the place.
+        requires { place < length self.now }
+        // The node at the place is that of the result, as it is written.
+        ensures { (x : NodeName × PlainNode) → slice_index_or self.now place x ≡ plain_item result.now }
+    {
+        &self.nodes[place]
     }
 
     /// The node at a place with its name, as it is written.

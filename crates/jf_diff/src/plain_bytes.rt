@@ -1,16 +1,15 @@
-// The bytes of a node by itself, and how many they are, without a copy of its value or a list of its children where none
-// is needed.
+// The bytes of a node by itself, and how many they are, without a copy of its value; what it says of its children is put
+// together in a list that serves one node after another.
 ghost use Rattle.std.specs.Prelude.{◌≡◌, ◌≤◌, ◌++◌, [], length, OnOk};
 ghost use Rattle.jf_codec.specs.Spelling.{IsNode, node_bytes};
 ghost use Rattle.jf_codec.specs.Counted.{in_format};
 ghost use Rattle.jf_diff.specs.Plains.{children_list, plain_at, plain_under};
 
-use crate::plain_node::{branches_of, children_of};
-use jf_codec::{Format, put_leaf, put_node};
+use crate::plain_node::{branches_of, children_into};
+use jf_codec::{Format, put_inner, put_leaf, put_node};
 use jf_hash::Places;
 use jf_node::{Link, Seen};
-use jf_path::{Bytes, Memory, PlainNode};
-use std::alloc::Global;
+use jf_path::{Bytes, Children, Memory, PlainNode};
 
 /// The number of children of an inner node.
 fn count_of_children(link: &Link) -> u64
@@ -58,32 +57,34 @@ pub(crate) fn plain_len(format: Format, link: &Option<Link>) -> u64
     }
 }
 
-/// Adds the bytes of a node by itself. If memory runs out, some of them may follow what was in `out`.
-fn put_link(alloc: Global, out: &mut Bytes, format: Format, link: &Link) -> Result<(), Memory>
+/// Adds the bytes of a node by itself; `list` may have anything. If memory runs out, some of the bytes may follow what was
+/// in `out`.
+fn put_link(out: &mut Bytes, format: Format, link: &Link, list: &mut Children) -> Result<(), Memory>
     requires { IsNode format (in_format format (plain_at link.now [])) }
     ensures { OnOk result (out.new ≡ out.old ++ node_bytes format (plain_at link.now [])) }
 {
     match link.view() {
         Seen::Leaf { key, value, .. } => put_leaf(out, key, value),
         Seen::Inner { .. } => {
-            let children = children_of(alloc, link)?;
-            put_node(out, format, &PlainNode::Inner { children })
+            children_into(link, list)?;
+            put_inner(out, format, list.as_slice())
         }
     }
 }
 
-/// Adds the bytes of the node of an optional link by itself. If memory runs out, some of them may follow what was in `out`.
+/// Adds the bytes of the node of an optional link by itself; `list` may have anything. If memory runs out, some of the bytes
+/// may follow what was in `out`.
 pub(crate) fn put_plain(
-    alloc: Global,
     out: &mut Bytes,
     format: Format,
     link: &Option<Link>,
+    list: &mut Children,
 ) -> Result<(), Memory>
     requires { IsNode format (in_format format (plain_under link.now [])) }
     ensures { OnOk result (out.new ≡ out.old ++ node_bytes format (plain_under link.now [])) }
 {
     match link {
         None => put_node(out, format, &PlainNode::Null),
-        Some(link) => put_link(alloc, out, format, link),
+        Some(link) => put_link(out, format, link, list),
     }
 }

@@ -1,5 +1,5 @@
 // Nodes by themselves, as they are written: without the children that they share.
-ghost use Rattle.std.specs.Prelude.{◌≡◌, ◌≤◌, [], length, IfOk};
+ghost use Rattle.std.specs.Prelude.{◌≡◌, ◌≤◌, [], length, IfOk, OnOk};
 ghost use Rattle.jf_node.specs.Shown.{ShowsInner};
 ghost use Rattle.jf_diff.specs.Plains.{plain_at, plain_under, children_list};
 
@@ -19,15 +19,17 @@ pub(crate) fn branches_of(link: &Link) -> &Branches
     }
 }
 
-/// What an inner node says of its children, as it is written.
-pub(crate) fn children_of(alloc: Global, link: &Link) -> Result<Children, Memory>
+/// Makes a list what an inner node says of its children, as it is written, in place of what is there. If memory runs out, the
+/// list has some of them.
+pub fn children_into(link: &Link, list: &mut Children) -> Result<(), Memory>
+    // The link is to an inner node.
     requires { 2 ≤ length link.now.entries }
-    ensures { IfOk result (λ r. r ≡ children_list link.now) }
+    // After Ok, the list is what the node says of its children.
+    ensures { OnOk result (list.new ≡ children_list link.now) }
 {
+    list.clear();
     let children = branches_of(link);
     children.know();
-    let room = children.children().rank(16);
-    let mut list = Children::with_capacity(alloc, room as u64)?;
     for n in 0..16 {
         let nibble = Nibble::of(n);
         if let Some(child) = children.get(nibble) {
@@ -42,6 +44,17 @@ pub(crate) fn children_of(alloc: Global, link: &Link) -> Result<Children, Memory
             })?;
         }
     }
+    Ok(())
+}
+
+/// What an inner node says of its children, as it is written.
+fn children_of(alloc: Global, link: &Link) -> Result<Children, Memory>
+    requires { 2 ≤ length link.now.entries }
+    ensures { IfOk result (λ r. r ≡ children_list link.now) }
+{
+    let room = branches_of(link).children().rank(16);
+    let mut list = Children::with_capacity(alloc, room as u64)?;
+    children_into(link, &mut list)?;
     Ok(list)
 }
 

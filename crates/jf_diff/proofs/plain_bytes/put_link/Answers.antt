@@ -1,8 +1,12 @@
-use Rattle.std.proofs.Common.{◌≡◌, ◌++◌, length, arith, subst, sym, ap, ◌∙◌}
+use Rattle.std.proofs.Common.{◌≡◌, ◌++◌, ◌≤◌, List, [], length, arith, subst, sym, ap, ◌∙◌}
 use Rattle.std.specs.Prelude.{OnOk}
+use Rattle.jf_path.specs.declared.children.Child.{Child}
 use Rattle.jf_path.specs.declared.node.PlainNode.TheVariants as node
 use Rattle.jf_codec.specs.Counted.{in_format}
 use Rattle.jf_codec.specs.Spelling.{IsNode, node_bytes}
+use Rattle.jf_codec.proofs.Counted.{small_nibbles}
+use Rattle.jf_node.specs.LinkValue.{LinkValue}
+use Rattle.jf_diff.specs.Plains.{children_list, plain_at}
 use Rattle.jf_diff.proofs.PlainNodes.{inner_plain}
 use Rattle.jf_diff.proofs.PlainBytes.{leaf_spelled}
 use Rattle.jf_diff.proofs.plain_bytes.put_link.Goals as goal
@@ -13,11 +17,16 @@ returns-in-Leaf c =
     (leaf_spelled c.args.format c.args.link.now c.in-Leaf.key.now c.in-Leaf.value.now c.in-Leaf.value_hash.now c.args.out.now c.in-Leaf.ensures.shows)
     c.put_leaf.ensures.ok
 
-pub put_node-requires : goal.put_node-requires
-put_node-requires c = subst (λ n. IsNode c.args.format (in_format c.args.format n)) (sym (ap (λ cs. node.Inner cs) c.in_ok-children-in-Inner.ensures ∙ inner_plain c.args.link.now (omega (arith, ap length c.in-Inner.ensures.shows.entries, c.in-Inner.ensures.shows.children.several)))) c.requires
+-- the list that was put together is what the node says of its children
+listed : (x : LinkValue) (cs list : List Child) → 2 ≤ length x.entries → cs ≡ list → list ≡ children_list x → node.Inner cs ≡ plain_at x []
+listed x cs list many same is = ap (λ ds. node.Inner ds) (same ∙ is) ∙ inner_plain x many
 
-pub returns-in_ok-children-in-Inner : goal.returns-in_ok-children-in-Inner
-returns-in_ok-children-in-Inner c =
-    subst (λ n. OnOk c.put_node.result (c.put_node.new.out ≡ c.args.out.now ++ node_bytes c.args.format n))
-    (ap (λ cs. node.Inner cs) c.in_ok-children-in-Inner.ensures ∙ inner_plain c.args.link.now (omega (arith, ap length c.in-Inner.ensures.shows.entries, c.in-Inner.ensures.shows.children.several)))
-    c.put_node.ensures.ok
+pub put_inner-requires-clause-nibbles : goal.put_inner-requires-clause-nibbles
+put_inner-requires-clause-nibbles c =
+    let is = listed c.args.link.now _ _ (omega (arith, ap length c.in-Inner.ensures.shows.entries, c.in-Inner.ensures.shows.children.several)) c.as_slice.ensures.value c.in_ok-children_into-in-Inner.ensures in
+    small_nibbles c.args.format _ (subst (λ n. IsNode c.args.format (in_format c.args.format n)) (sym is) c.requires)
+
+pub returns-in_ok-children_into-in-Inner : goal.returns-in_ok-children_into-in-Inner
+returns-in_ok-children_into-in-Inner c =
+    let is = listed c.args.link.now _ _ (omega (arith, ap length c.in-Inner.ensures.shows.entries, c.in-Inner.ensures.shows.children.several)) c.as_slice.ensures.value c.in_ok-children_into-in-Inner.ensures in
+    subst (λ n. OnOk c.put_inner.result (c.put_inner.new.out ≡ c.args.out.now ++ node_bytes c.args.format n)) is c.put_inner.ensures.ok

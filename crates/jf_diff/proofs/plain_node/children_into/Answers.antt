@@ -3,8 +3,8 @@ use Rattle.std.specs.Option.{option_copied}
 use Rattle.jf_model.specs.Nodes.{child_in_node}
 use Rattle.jf_diff.proofs.PlainNodes.{versions_below, child_is, child_none, each_more, children_rise}
 use Rattle.jf_diff.proofs.Walks.{inner_below, child_entries_none, child_entries_some}
-use Rattle.jf_diff.proofs.plain_node.children_of.Goals as goal
-use Rattle.jf_diff.proofs.plain_node.children_of.Goals.{in-Some+in_ok-push, in_default}
+use Rattle.jf_diff.proofs.plain_node.children_into.Goals as goal
+use Rattle.jf_diff.proofs.plain_node.children_into.Goals.{in-Some+in_ok-push, in_default}
 
 pub push-requires : goal.push-requires
 push-requires c = children_rise c.args.link.now c.loop-n.n c.loop-n.list _ c.loop-n.invariant c.of-nibble.ensures
