@@ -1,5 +1,5 @@
 -- What holds the standing of one snapshot.
-use Rattle.std.proofs.Common.{◌≡◌, ℕ, ◌+◌, ◌-◌, ◌<◌, ◌≤◌, ◌^◌, List, [], ◌∷◌, ◌++◌, reverse, length, Contains, refl, sym, ap, ◌∙◌, subst, arith, true, Some, None}
+use Rattle.std.proofs.Common.{◌≡◌, ℕ, ◌+◌, ◌-◌, ◌<◌, ◌≤◌, ◌^◌, List, [], ◌∷◌, ◌++◌, map, reverse, length, Contains, refl, sym, ap, ◌∙◌, subst, arith, true, Some, None}
 use Rattle.std.proofs.lemmas.List.{reverse-append, length-reverse, length-map}
 use Rattle.std.proofs.lemmas.List.Sorted.{Contains-permutation, IsPermutation-sym, length_permutation}
 use Rattle.std.specs.FinMap.{entries, len}
@@ -14,21 +14,20 @@ use Rattle.jf_walk.proofs.NodesListed.{nodes-exact}
 use Rattle.jf_node.specs.SnapshotValue.{SnapshotValue}
 use Rattle.jf_node.specs.Snapshots.{snapshot_version_at, IsSnapshot}
 use Rattle.jf_diff.specs.Landings.{version_in, version_or}
-use Rattle.jf_standing.specs.Named.{NamedNode, not_stale, leaf_entry, leaf_entries, AreEntries, map_at, version_at}
+use Rattle.jf_standing.specs.Named.{NamedNode, not_stale, leaf_entry, leaf_entries, AreEntries, map_at, stale_nodes_at, version_at}
 use Rattle.jf_standing.specs.Standing.{Standing}
 use Rattle.jf_standing.specs.Sound.{IsSound}
-use Rattle.jf_standing.specs.Building.{floor_standing, nodes_by_name, node_of}
+use Rattle.jf_standing.specs.Building.{floor_standing, nodes_by_name, node_of, up_from}
 use Rattle.jf_standing.specs.Next.{IsReadStanding}
 use Rattle.jf_standing.proofs.ByName.{nodes-moved}
 use Rattle.jf_standing.proofs.Floor.{floor-sound, map-floor, version-floor}
 use Rattle.jf_standing.proofs.Leaves.{leaf-which}
 use Rattle.jf_standing.proofs.LeafPaths.{leaf-plain, under-Contains}
-use Rattle.jf_standing.proofs.Lists.{All-each_element, map-which, none_in_nothing}
+use Rattle.jf_standing.proofs.Lists.{All-each_element, map-which}
 use Rattle.jf_standing.proofs.Reordered.{moved-sound, map-moved, version-moved}
 use Rattle.jf_standing.proofs.SpelledRecords.{nodes-are_rising}
 use Rattle.jf_dir.specs.Directories.{snapshot_standing}
-use Rattle.jf_dir.specs.Holding.{AreMarksOf, IsStandingHeld}
-use Rattle.jf_dir.proofs.MarkMoves.{mark-which}
+use Rattle.jf_dir.specs.Holding.{IsStandingHeld, stale_counts}
 
 module _ (base : ℕ) (earlier : List (List ℕ)) (x : SnapshotValue) (snap : IsSnapshot x) (hashes : AllByRecursion IsKey (root x.map ∷ reverse earlier)) (numbered : base + length earlier ≡ x.version) (last : x.version < not_stale) (room : len x.map ≤ 2 ^ 63) where
   abbrev floor_made : Standing
@@ -81,16 +80,8 @@ module _ (base : ℕ) (earlier : List (List ℕ)) (x : SnapshotValue) (snap : Is
     rises = nodes-are_rising floor_made.nodes;
   }
 
-  no_marks : AreMarksOf (snapshot_standing base earlier x).nodes []
-  no_marks k = (
-    λ has. absurd (none_in_nothing k has),
-    λ has. absurd (
-        let n = mark-which (snapshot_standing base earlier x).nodes k has in
-        let y = map-which (node_of format.Two (version_in x)) (nodes x.map) n.0 (came n.0 n.1) in
-        let since : not_stale ≡ n.0.2 = ap (λ (z : NamedNode). z.2) y.2 in
-        let high = n.2 in
-        omega arith),
-  )
+  none-stale : [] ≡ stale_counts (snapshot_standing base earlier x)
+  none-stale = sym (ap (λ n. map (λ w. length (stale_nodes_at w (snapshot_standing base earlier x).nodes)) (up_from (x.version + 1) n)) (let e : x.version - x.version ≡ 0 = omega arith in e))
 
   pub nodes-begun : length (snapshot_standing base earlier x).nodes ≡ length (nodes x.map)
   nodes-begun = length_permutation floor_made.nodes (nodes_by_name floor_made.nodes) moved ∙ length-map (nodes x.map) (node_of format.Two (version_in x))
@@ -104,6 +95,6 @@ module _ (base : ℕ) (earlier : List (List ℕ)) (x : SnapshotValue) (snap : Is
     long = omega arith;
     snapshots = (record { version = refl; map = sym map_is; versions = λ p node. sym (version_is p (ap (λ m. is_node 0 p (entries m)) (sym map_is) ∙ node)) }, tt);
     short = (snap.short, tt);
-    marks = no_marks;
+    stale = none-stale;
     count = is ∙ sym nodes-begun;
   }

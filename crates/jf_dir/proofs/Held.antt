@@ -10,7 +10,6 @@ use Rattle.jf_codec.specs.declared.format.Format.TheVariants as format
 use Rattle.jf_walk.proofs.NodesListed.{nodes-exact}
 use Rattle.jf_node.specs.SnapshotValue.{SnapshotValue}
 use Rattle.jf_diff.specs.Landings.{version_in}
-use Rattle.jf_stale.specs.Marks.{Mark}
 use Rattle.jf_standing.specs.Named.{NamedNode, not_stale, map_at, version_at}
 use Rattle.jf_standing.specs.Standing.{Standing}
 use Rattle.jf_standing.specs.Building.{node_of, floor_standing, floor_of, built_standing, up_from, nodes_by_name}
@@ -36,10 +35,10 @@ maps-held s w [] h = refl
 maps-held s w (x ∷ xs) h = ap₂ (λ m ms. m ∷ ms) (sym h.0.map) (maps-held s (w + 1) xs h.1)
 
 -- what is built from snapshots that hold a standing is that standing
-pub held-is : (s : Standing) (b : ℕ) (rs : List (List ℕ)) (xs : List SnapshotValue) (ms : List Mark) (n : ℕ) → IsStandingHeld s b rs xs ms n → standing_held b rs xs ≡ s
+pub held-is : (s : Standing) (b : ℕ) (rs : List (List ℕ)) (xs : List SnapshotValue) (cs : List ℕ) (n : ℕ) → IsStandingHeld s b rs xs cs n → standing_held b rs xs ≡ s
 unfolding standing_held
-held-is s b rs [] ms n h = absurd (let long = h.long in let low = h.sound.floor_low in omega arith)
-held-is s b rs (x ∷ xs) ms n h =
+held-is s b rs [] cs n h = absurd (let long = h.long in let low = h.sound.floor_low in omega arith)
+held-is s b rs (x ∷ xs) cs n h =
     let long = h.long in
     let low = h.sound.floor_low in
     let first = h.snapshots.0 in

@@ -1,14 +1,12 @@
 -- What the directory holds after each call, and the standing that this makes.
-use Rattle.std.proofs.Common.{◌≡◌, ℕ, zero, suc, ◌+◌, ◌-◌, ◌<◌, ◌≤◌, ◌^◌, List, [], ◌∷◌, ◌++◌, map, reverse, drop, take, length, refl, sym, ap, ◌∙◌, subst, arith, inl, inr, None, true}
+use Rattle.std.proofs.Common.{◌≡◌, ℕ, zero, suc, ◌+◌, ◌-◌, ◌<◌, ◌≤◌, ◌^◌, List, [], ◌∷◌, ◌++◌, map, reverse, drop, take, length, refl, sym, ap, ap₂, ◌∙◌, subst, arith, None, true, take_at, length-append}
 use Rattle.std.proofs.lemmas.List.{length-reverse}
 use Rattle.std.proofs.lemmas.List.Sorted.{Contains-permutation, IsPermutation-reverse, IsPermutation-sym}
 use Rattle.std.specs.FinMap.{len, entries}
 use Rattle.std.specs.FinMap as fin
-use Rattle.std.specs.List.{AllByRecursion}
+use Rattle.std.specs.List.{AllByRecursion, sum}
 use Rattle.jf_path.specs.Keys.{IsKey}
-use Rattle.jf_path.specs.declared.name.NodeName.{NodeName}
 use Rattle.jf_path.specs.declared.node.PlainNode.TheVariants as node
-use Rattle.jf_path.proofs.FilterLaws.{length-filter_le}
 use Rattle.jf_path.proofs.ListLaws.{All-of}
 use Rattle.jf_hash.specs.Maps.{Map, IsMap}
 use Rattle.jf_hash.specs.Roots.{root}
@@ -22,7 +20,6 @@ use Rattle.jf_node.specs.SnapshotValue.{SnapshotValue}
 use Rattle.jf_node.specs.Snapshots.{snapshot_of, IsSnapshot}
 use Rattle.jf_node.specs.declared.update.Update.{Update}
 use Rattle.jf_diff.specs.Landings.{version_in}
-use Rattle.jf_stale.specs.Marks.{Mark, AreAscendingMarks}
 use Rattle.jf_standing.specs.Named.{NamedNode, not_stale}
 use Rattle.jf_standing.specs.Standing.{Standing, with_floor}
 use Rattle.jf_standing.specs.Sound.{IsSound}
@@ -34,16 +31,15 @@ use Rattle.jf_standing.proofs.Lands.{map-lands}
 use Rattle.jf_standing.proofs.Leaves.{IsMap-map_at}
 use Rattle.jf_standing.proofs.Lists.{All-each_element}
 use Rattle.jf_dir.specs.Directories.{IsLandingUpdate, IsSnapshotAt, snapshot_standing}
-use Rattle.jf_dir.specs.Holding.{standing_held, is_stale_node, landing_update, AreAdded, AreSomeAdded, AreRemoved, AreTakenUpto, IsStandingHeld}
+use Rattle.jf_dir.specs.Holding.{standing_held, landing_update, stale_counts, IsStandingHeld}
 use Rattle.jf_dir.proofs.Begins.{held-begun}
 use Rattle.jf_dir.proofs.Held.{held-is}
-use Rattle.jf_dir.proofs.MarkCounts.{length-marks, count-floored}
-use Rattle.jf_dir.proofs.MarkMoves.{mark-low, marks-landed, marks-unlanded, marks-floored}
-use Rattle.jf_dir.proofs.Moves.{nodes-landed, held-landed, held-unlanded, held-floored, floored-read}
+use Rattle.jf_dir.proofs.Moves.{nodes-landed, held-landed, held-unlanded, held-floored}
+use Rattle.jf_dir.proofs.StaleCounts.{counts-landed, counts-floored, count-floored}
 
 -- what holds a standing holds the standing that it makes
-pub held-again : (s : Standing) (b : ℕ) (rs : List (List ℕ)) (xs : List SnapshotValue) (ms : List Mark) (n : ℕ) → IsStandingHeld s b rs xs ms n → IsStandingHeld (standing_held b rs xs) b rs xs ms n
-held-again s b rs xs ms n h = subst (λ t. IsStandingHeld t b rs xs ms n) (sym (held-is s b rs xs ms n h)) h
+pub held-again : (s : Standing) (b : ℕ) (rs : List (List ℕ)) (xs : List SnapshotValue) (cs : List ℕ) (n : ℕ) → IsStandingHeld s b rs xs cs n → IsStandingHeld (standing_held b rs xs) b rs xs cs n
+held-again s b rs xs cs n h = subst (λ t. IsStandingHeld t b rs xs cs n) (sym (held-is s b rs xs cs n h)) h
 
 last_apart : {X : Type 0} (xs : List X) (k : ℕ) → length xs ≡ suc k → (x : X) × (xs ≡ take k xs ++ x ∷ [])
 last_apart [] k long = absurd (omega arith)
@@ -58,54 +54,35 @@ popped old new k full is some =
     (cut.0, cut.1 ∙ ap (λ xs. xs ++ cut.0 ∷ []) (sym is))
 
 -- ---- a landing
-module _ (s : Standing) (b : ℕ) (rs : List (List ℕ)) (xs : List SnapshotValue) (ms : List Mark) (n : ℕ) (h : IsStandingHeld s b rs xs ms n) (u : Update) (landing : IsLandingUpdate s u.snapshot.map u) (snap : IsSnapshot u.snapshot) (room : len u.snapshot.map ≤ 2 ^ 63) where
-  pub push-landed : (rs' : List (List ℕ)) (xs' : List SnapshotValue) (x : SnapshotValue) (ms' : List Mark) (n' since : ℕ) (names : List NodeName) → rs' ≡ rs ++ u.root ∷ [] → xs' ≡ xs ++ x ∷ [] → x ≡ u.snapshot → since ≡ u.snapshot.version → names ≡ u.stale → AreAdded since names ms ms' → n' ≡ n + length u.fresh
-      → IsStandingHeld (landed_on format.Two u.snapshot.map s) b rs' xs' ms' n'
-  push-landed rs' xs' x ms' n' since names rooted more own at named added count =
+module _ (s : Standing) (b : ℕ) (rs : List (List ℕ)) (xs : List SnapshotValue) (cs : List ℕ) (n : ℕ) (h : IsStandingHeld s b rs xs cs n) (u : Update) (landing : IsLandingUpdate s u.snapshot.map u) (snap : IsSnapshot u.snapshot) (room : len u.snapshot.map ≤ 2 ^ 63) where
+  pub push-landed : (rs' : List (List ℕ)) (xs' : List SnapshotValue) (x : SnapshotValue) (cs' : List ℕ) (n' count : ℕ) → rs' ≡ rs ++ u.root ∷ [] → xs' ≡ xs ++ x ∷ [] → x ≡ u.snapshot → cs' ≡ cs ++ count ∷ [] → count ≡ length u.stale → n' ≡ n + length u.fresh
+      → IsStandingHeld (landed_on format.Two u.snapshot.map s) b rs' xs' cs' n'
+  push-landed rs' xs' x cs' n' count rooted more own added counted all =
       let m = u.snapshot.map in
-      let marked_ : AreAdded (s.head + 1) (landing_of format.Two s m).stale ms ms' = subst (λ v. AreAdded v (landing_of format.Two s m).stale ms ms') (at ∙ landing.version) (subst (λ ns. AreAdded since ns ms ms') (named ∙ landing.stale) added) in
-      let marks = marks-landed s m h.sound (IsMap-map_at s.head s.nodes h.read.keys) snap.map landing.last ms ms' h.marks marked_ in
-      let held = held-landed s m u h.read h.sound snap.map room landing b rs xs ms ms' n n' h snap.short marks count in
-      subst (λ ts. IsStandingHeld (landed_on format.Two m s) b ts xs' ms' n') (sym rooted)
-      (subst (λ ys. IsStandingHeld (landed_on format.Two m s) b (rs ++ u.root ∷ []) ys ms' n') (ap (λ y. xs ++ y ∷ []) (sym own) ∙ sym more) held)
-
-  -- marks that were added in part and then removed
-  pub push-kept : (rs' : List (List ℕ)) (xs' : List SnapshotValue) (ms₁ ms₂ : List Mark) (since : ℕ) (names : List NodeName) → rs' ≡ rs → xs' ≡ xs → since ≡ u.snapshot.version → AreSomeAdded since names ms ms₁ → AreRemoved since names ms₁ ms₂ → IsStandingHeld s b rs' xs' ms₂ n
-  push-kept rs' xs' ms₁ ms₂ since names rooted same at added removed =
-      let version = landing.version in
-      let held : IsStandingHeld s b rs xs ms₂ n = record {
-        read = h.read;
-        sound = h.sound;
-        base = h.base;
-        rooted = h.rooted;
-        long = h.long;
-        snapshots = h.snapshots;
-        short = h.short;
-        marks = λ k. (
-          λ has. elim (added.own k (removed.stood k has)) [ inl old ↦ (h.marks k).0 old | inr is ↦ absurd (removed.none k has is) ],
-          λ has. removed.rest k (added.kept k ((h.marks k).1 has)) (λ is. let most = mark-low s h.sound k has in let here = is.0 in omega arith),
-        );
-        count = h.count;
-      } in
-      subst (λ ts. IsStandingHeld s b ts xs' ms₂ n) (sym rooted) (subst (λ ys. IsStandingHeld s b rs ys ms₂ n) (sym same) held)
+      let old = IsMap-map_at s.head s.nodes h.read.keys in
+      let stale = added ∙ ap₂ (λ ds k. ds ++ k ∷ []) h.stale (counted ∙ ap length landing.stale) ∙ sym (counts-landed s m h.read h.sound old snap.map landing.last) in
+      let held = held-landed s m u h.read h.sound snap.map room landing b rs xs cs cs' n n' h snap.short stale all in
+      subst (λ ts. IsStandingHeld (landed_on format.Two m s) b ts xs' cs' n') (sym rooted)
+      (subst (λ ys. IsStandingHeld (landed_on format.Two m s) b (rs ++ u.root ∷ []) ys cs' n') (ap (λ y. xs ++ y ∷ []) (sym own) ∙ sym more) held)
 
 -- ---- a landing taken back
-pub pop-unlanded : (s : Standing) (b : ℕ) (rs rs' : List (List ℕ)) (xs xs' : List SnapshotValue) (ms ms' : List Mark) (n k j since count : ℕ) (names : List NodeName) (u : Update) → IsReadStanding s → IsSound format.Two s → IsLandingUpdate s u.snapshot.map u → IsSnapshot u.snapshot
-    → IsStandingHeld (landed_on format.Two u.snapshot.map s) b rs xs ms n → k ≡ length rs → rs' ≡ take (k - 1) rs → j ≡ length xs → xs' ≡ take (j - 1) xs → since ≡ u.snapshot.version → names ≡ u.stale → AreRemoved since names ms ms' → count ≡ length u.fresh → IsStandingHeld s b rs' xs' ms' (n - count)
-pop-unlanded s b rs rs' xs xs' ms ms' n k j since count names u read sound landing snap h rooted rs_are full xs_are at named removed number =
+pub pop-unlanded : (s : Standing) (b : ℕ) (rs rs' : List (List ℕ)) (xs xs' : List SnapshotValue) (cs cs' : List ℕ) (n k j i count : ℕ) (u : Update) → IsReadStanding s → IsSound format.Two s → IsLandingUpdate s u.snapshot.map u → IsSnapshot u.snapshot
+    → IsStandingHeld (landed_on format.Two u.snapshot.map s) b rs xs cs n → k ≡ length rs → rs' ≡ take (k - 1) rs → j ≡ length xs → xs' ≡ take (j - 1) xs → i ≡ length cs → cs' ≡ take (i - 1) cs → count ≡ length u.fresh → IsStandingHeld s b rs' xs' cs' (n - count)
+pop-unlanded s b rs rs' xs xs' cs cs' n k j i count u read sound landing snap h rooted rs_are full xs_are counted cs_are number =
     let m = u.snapshot.map in
     let old = IsMap-map_at s.head s.nodes read.keys in
     let low = sound.floor_low in
     let room : len m ≤ 2 ^ 63 = subst (λ q. len q ≤ 2 ^ 63) (map-lands format.Two s m sound old snap.map landing.last) (h.sound.versions (s.head + 1) (omega arith) (omega arith)).room in
-    let removed_ : AreRemoved (s.head + 1) (landing_of format.Two s m).stale ms ms' = subst (λ v. AreRemoved v (landing_of format.Two s m).stale ms ms') (at ∙ landing.version) (subst (λ ns. AreRemoved since ns ms ms') (named ∙ landing.stale) removed) in
-    let marks = marks-unlanded s m sound old snap.map landing.last ms ms' h.marks removed_ in
+    let with_own = h.stale ∙ counts-landed s m read sound old snap.map landing.last in
+    let own = length (landing_of format.Two s m).stale in
+    let stale : cs' ≡ stale_counts s = cs_are ∙ ap (take (i - 1)) with_own ∙ take_at (stale_counts s) (own ∷ []) (i - 1) (omega (arith, counted, ap length with_own, length-append (stale_counts s) (own ∷ []))) in
     let all_roots : length rs ≡ suc (length s.roots) = sym (ap length h.rooted ∙ length-reverse rs) in
     let r = popped rs rs' k rooted rs_are (omega arith) in
     let long = h.long in
     let x = popped xs xs' j full xs_are (omega arith) in
-    let held : IsStandingHeld (landed_on format.Two m s) b (rs' ++ r.0 ∷ []) (xs' ++ x.0 ∷ []) ms n = subst (λ ts. IsStandingHeld (landed_on format.Two m s) b ts (xs' ++ x.0 ∷ []) ms n) r.1 (subst (λ ys. IsStandingHeld (landed_on format.Two m s) b rs ys ms n) x.1 h) in
-    let fewer : n - count + length u.fresh ≡ n = let all = h.count in let own = ap length landing.fresh in let sum = nodes-landed s m in omega arith in
-    held-unlanded s m u read sound snap.map room landing b rs' r.0 xs' x.0 ms ms' n (n - count) held marks fewer
+    let held : IsStandingHeld (landed_on format.Two m s) b (rs' ++ r.0 ∷ []) (xs' ++ x.0 ∷ []) cs n = subst (λ ts. IsStandingHeld (landed_on format.Two m s) b ts (xs' ++ x.0 ∷ []) cs n) r.1 (subst (λ ys. IsStandingHeld (landed_on format.Two m s) b rs ys cs n) x.1 h) in
+    let fewer : n - count + length u.fresh ≡ n = let all = h.count in let mine = ap length landing.fresh in let sum = nodes-landed s m in omega arith in
+    held-unlanded s m u read sound snap.map room landing b rs' r.0 xs' x.0 cs cs' n (n - count) held stale fewer
 
 -- the newest snapshot after a landing is that of the landing
 pub newest-update : (s : Standing) (m : Map) (x : SnapshotValue) → IsReadStanding s → IsSound format.Two s → IsMap m → IsSound format.Two (landed_on format.Two m s) → IsSnapshotAt (landed_on format.Two m s) (s.head + 1) x → (x.map ≡ m) × IsLandingUpdate s x.map (landing_update s x)
@@ -129,32 +106,32 @@ newest-update s m x read sound own after at =
     )
 
 -- ---- a later floor
--- no more marks are taken than there are nodes
-pub taken-few : (s : Standing) (b : ℕ) (rs : List (List ℕ)) (xs : List SnapshotValue) (ms ms' : List Mark) (n floor count : ℕ) → IsStandingHeld s b rs xs ms n → AreAscendingMarks ms → AreTakenUpto floor count ms ms' → count ≤ n
-taken-few s b rs xs ms ms' n floor count h up taken =
-    let all = length-marks s.nodes ms h.read.rises up h.marks in
-    let most = length-filter_le is_stale_node s.nodes in
-    let number = taken.number in
+-- no more nodes are dropped than there are
+pub dropped-few : (s : Standing) (b : ℕ) (rs : List (List ℕ)) (xs : List SnapshotValue) (cs : List ℕ) (n floor dropped : ℕ) → IsStandingHeld s b rs xs cs n → s.floor ≤ floor → floor ≤ s.head → dropped ≡ floor - s.floor → sum (take dropped cs) ≤ n
+dropped-few s b rs xs cs n floor dropped h low high at =
+    let same = ap₂ (λ k ds. sum (take k ds)) at h.stale in
+    let all = count-floored s floor h.sound low high in
     let full = h.count in
     omega arith
 
-pub prune-held : (s : Standing) (b : ℕ) (rs : List (List ℕ)) (xs xs' : List SnapshotValue) (ms ms' : List Mark) (n floor count dropped : ℕ) → IsStandingHeld s b rs xs ms n → s.floor ≤ floor → floor ≤ s.head → xs' ≡ drop dropped xs → dropped ≡ floor - s.floor → AreAscendingMarks ms → AreAscendingMarks ms' → AreTakenUpto floor count ms ms'
-    → IsStandingHeld (with_floor floor s) b rs xs' ms' (n - count)
-prune-held s b rs xs xs' ms ms' n floor count dropped h low high rest at up up' taken =
-    let last = h.sound.head_last in
-    subst (λ ys. IsStandingHeld (with_floor floor s) b rs ys ms' (n - count)) (ap (λ i. drop i xs) (sym at) ∙ sym rest)
-    (held-floored s floor low high b rs xs ms ms' n (n - count) h (marks-floored s floor count ms ms' h.marks taken)
-    (count-floored s floor count n ms ms' h.read (floored-read s floor low high h.read) (omega arith) up up' h.marks taken h.count))
+pub prune-held : (s : Standing) (b : ℕ) (rs : List (List ℕ)) (xs xs' : List SnapshotValue) (cs cs' : List ℕ) (n n' floor dropped : ℕ) → IsStandingHeld s b rs xs cs n → s.floor ≤ floor → floor ≤ s.head → xs' ≡ drop dropped xs → dropped ≡ floor - s.floor → cs' ≡ drop dropped cs → n' + sum (take dropped cs) ≡ n
+    → IsStandingHeld (with_floor floor s) b rs xs' cs' n'
+prune-held s b rs xs xs' cs cs' n n' floor dropped h low high rest at later left =
+    let same = ap₂ (λ k ds. sum (take k ds)) at h.stale in
+    let all = count-floored s floor h.sound low high in
+    let full = h.count in
+    subst (λ ys. IsStandingHeld (with_floor floor s) b rs ys cs' n') (ap (λ i. drop i xs) (sym at) ∙ sym rest)
+    (held-floored s floor low high b rs xs cs cs' n n' h (later ∙ ap₂ drop at h.stale ∙ sym (counts-floored s floor low high)) (omega arith))
 
 -- ---- one snapshot
-pub begun-held : (base : ℕ) (earlier : List (List ℕ)) (x : SnapshotValue) (r : List ℕ) (rs : List (List ℕ)) (none xs : List SnapshotValue) (ms : List Mark) (n : ℕ) → IsSnapshot x → AllByRecursion IsKey earlier → base + length earlier ≡ x.version → x.version < not_stale → len x.map ≤ 2 ^ 63
-    → r ≡ root x.map → rs ≡ earlier ++ r ∷ [] → none ≡ [] → xs ≡ none ++ x ∷ [] → ms ≡ [] → n ≡ length (nodes x.map) → IsStandingHeld (snapshot_standing base earlier x) base rs xs ms n
-begun-held base earlier x r rs none xs ms n snap keys numbered last room root_is rooted empty one unmarked_ count =
+pub begun-held : (base : ℕ) (earlier : List (List ℕ)) (x : SnapshotValue) (r : List ℕ) (rs : List (List ℕ)) (none xs : List SnapshotValue) (cs : List ℕ) (n : ℕ) → IsSnapshot x → AllByRecursion IsKey earlier → base + length earlier ≡ x.version → x.version < not_stale → len x.map ≤ 2 ^ 63
+    → r ≡ root x.map → rs ≡ earlier ++ r ∷ [] → none ≡ [] → xs ≡ none ++ x ∷ [] → cs ≡ [] → n ≡ length (nodes x.map) → IsStandingHeld (snapshot_standing base earlier x) base rs xs cs n
+begun-held base earlier x r rs none xs cs n snap keys numbered last room root_is rooted empty one nothing count =
     let hashes : AllByRecursion IsKey (root x.map ∷ reverse earlier) = (root-IsKey x.map, All-each_element IsKey (reverse earlier) (λ k has. All-of IsKey earlier k keys (Contains-permutation (reverse earlier) earlier k (IsPermutation-sym earlier (reverse earlier) (IsPermutation-reverse earlier)) has))) in
     let held = held-begun base earlier x snap hashes numbered last room n count in
-    subst (λ ts. IsStandingHeld (snapshot_standing base earlier x) base ts xs ms n) (ap (λ k. earlier ++ k ∷ []) (sym root_is) ∙ sym rooted)
-    (subst (λ ys. IsStandingHeld (snapshot_standing base earlier x) base (earlier ++ root x.map ∷ []) ys ms n) (ap (λ zs. zs ++ x ∷ []) (sym empty) ∙ sym one)
-    (subst (λ ks. IsStandingHeld (snapshot_standing base earlier x) base (earlier ++ root x.map ∷ []) (x ∷ []) ks n) (sym unmarked_) held))
+    subst (λ ts. IsStandingHeld (snapshot_standing base earlier x) base ts xs cs n) (ap (λ k. earlier ++ k ∷ []) (sym root_is) ∙ sym rooted)
+    (subst (λ ys. IsStandingHeld (snapshot_standing base earlier x) base (earlier ++ root x.map ∷ []) ys cs n) (ap (λ zs. zs ++ x ∷ []) (sym empty) ∙ sym one)
+    (subst (λ ks. IsStandingHeld (snapshot_standing base earlier x) base (earlier ++ root x.map ∷ []) (x ∷ []) ks n) (sym nothing) held))
 
 -- ---- the empty map
 abbrev none_map : Map

@@ -2,10 +2,8 @@ pub mod Begins
 pub mod Held
 pub mod Listings
 pub mod Lookups
-pub mod MarkCounts
-pub mod MarkMoves
-pub mod MarkSteps
 pub mod Moves
 pub mod NextLandings
 pub mod NodeCounts
+pub mod StaleCounts
 pub mod HeldAfter

@@ -9,7 +9,6 @@ use Rattle.jf_path.specs.Limits.{max_value}
 use Rattle.jf_path.proofs.ListLaws.{All-by_place}
 use Rattle.jf_model.specs.Versions.{root_of}
 use Rattle.jf_node.specs.SnapshotValue.{SnapshotValue}
-use Rattle.jf_stale.specs.Marks.{Mark}
 use Rattle.jf_standing.specs.Named.{map_at}
 use Rattle.jf_standing.specs.Standing.{Standing, versions_of}
 use Rattle.jf_dir.specs.Directories.{IsSnapshotAt}
@@ -21,7 +20,7 @@ snapshot-at s w [] i d lt h = absurd (omega arith)
 snapshot-at s w (x ∷ xs) zero d lt h = subst (λ v. IsSnapshotAt s v x) (let e : w ≡ w + 0 = omega arith in e) h.0
 snapshot-at s w (x ∷ xs) (suc i) d lt h = subst (λ v. IsSnapshotAt s v (slice_index_or xs i d)) (let e : w + 1 + i ≡ w + suc i = omega arith in e) (snapshot-at s (w + 1) xs i d (omega arith) h.1)
 
-module _ (s : Standing) (b : ℕ) (rs : List (List ℕ)) (xs : List SnapshotValue) (ms : List Mark) (n : ℕ) (h : IsStandingHeld s b rs xs ms n) where
+module _ (s : Standing) (b : ℕ) (rs : List (List ℕ)) (xs : List SnapshotValue) (cs : List ℕ) (n : ℕ) (h : IsStandingHeld s b rs xs cs n) where
   pub held-at : (w : ℕ) (x : SnapshotValue) → s.floor ≤ w → w - s.floor < length xs → x ≡ slice_index_or xs (w - s.floor) x → IsSnapshotAt s w x
   held-at w x low lt is =
       subst (λ v. IsSnapshotAt s v x) (let e : s.floor + (w - s.floor) ≡ w = omega arith in e)

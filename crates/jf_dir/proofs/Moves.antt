@@ -12,7 +12,6 @@ use Rattle.jf_model.proofs.VersionLaws.{root-IsKey}
 use Rattle.jf_codec.specs.declared.format.Format.TheVariants as format
 use Rattle.jf_node.specs.SnapshotValue.{SnapshotValue}
 use Rattle.jf_node.specs.declared.update.Update.{Update}
-use Rattle.jf_stale.specs.Marks.{Mark}
 use Rattle.jf_standing.specs.Named.{NamedNode, is_at, map_at, version_at}
 use Rattle.jf_standing.specs.Standing.{Standing, with_floor, marked_node, unmarked_node}
 use Rattle.jf_standing.specs.Sound.{IsSound}
@@ -26,7 +25,7 @@ use Rattle.jf_standing.proofs.Leaves.{IsMap-map_at}
 use Rattle.jf_standing.proofs.Nexts.{entries-nodes_after_commit, entries-floored}
 use Rattle.jf_standing.proofs.Rising.{are_rising-after, are_rising-floored, landing-read}
 use Rattle.jf_dir.specs.Directories.{IsSnapshotAt, IsLandingUpdate}
-use Rattle.jf_dir.specs.Holding.{AreSnapshotsFrom, AreMarksOf, IsShortSnapshot, IsStandingHeld}
+use Rattle.jf_dir.specs.Holding.{AreSnapshotsFrom, IsShortSnapshot, IsStandingHeld, stale_counts}
 
 -- ---- snapshots of another standing
 -- a snapshot of one standing is that of another with the same map and versions
@@ -111,9 +110,9 @@ module _ (s : Standing) (m : Map) (u : Update) (read : IsReadStanding s) (sound 
       }
 
   -- what holds the standing after the landing
-  pub held-landed : (b : ℕ) (rs : List (List ℕ)) (xs : List SnapshotValue) (ms ms' : List Mark) (n n' : ℕ) → IsStandingHeld s b rs xs ms n → IsShortSnapshot u.snapshot → AreMarksOf (landed_on format.Two m s).nodes ms' → n' ≡ n + length u.fresh
-      → IsStandingHeld (landed_on format.Two m s) b (rs ++ u.root ∷ []) (xs ++ u.snapshot ∷ []) ms' n'
-  held-landed b rs xs ms ms' n n' h short marks count =
+  pub held-landed : (b : ℕ) (rs : List (List ℕ)) (xs : List SnapshotValue) (cs cs' : List ℕ) (n n' : ℕ) → IsStandingHeld s b rs xs cs n → IsShortSnapshot u.snapshot → cs' ≡ stale_counts (landed_on format.Two m s) → n' ≡ n + length u.fresh
+      → IsStandingHeld (landed_on format.Two m s) b (rs ++ u.root ∷ []) (xs ++ u.snapshot ∷ []) cs' n'
+  held-landed b rs xs cs cs' n n' h short stale count =
       let long = h.long in
       record {
         read = landed-read;
@@ -125,14 +124,14 @@ module _ (s : Standing) (m : Map) (u : Update) (read : IsReadStanding s) (sound 
             (snapshots-moved s (landed_on format.Two m s) s.floor xs (λ v low high x is. snapshot-landed v (omega arith) x is) h.snapshots)
             (subst (λ v. IsSnapshotAt (landed_on format.Two m s) v u.snapshot) long snapshot-own);
         short = All-append IsShortSnapshot xs (u.snapshot ∷ []) h.short (short, tt);
-        marks = marks;
+        stale = stale;
         count = count ∙ ap₂ (λ a b. a + b) h.count (ap length landing.fresh) ∙ sym (nodes-landed s m);
       }
 
   -- what holds the standing before the landing
-  pub held-unlanded : (b : ℕ) (rs : List (List ℕ)) (r : List ℕ) (xs : List SnapshotValue) (x : SnapshotValue) (ms ms' : List Mark) (n n' : ℕ) → IsStandingHeld (landed_on format.Two m s) b (rs ++ r ∷ []) (xs ++ x ∷ []) ms n → AreMarksOf s.nodes ms' → n' + length u.fresh ≡ n
-      → IsStandingHeld s b rs xs ms' n'
-  held-unlanded b rs r xs x ms ms' n n' h marks count =
+  pub held-unlanded : (b : ℕ) (rs : List (List ℕ)) (r : List ℕ) (xs : List SnapshotValue) (x : SnapshotValue) (cs cs' : List ℕ) (n n' : ℕ) → IsStandingHeld (landed_on format.Two m s) b (rs ++ r ∷ []) (xs ++ x ∷ []) cs n → cs' ≡ stale_counts s → n' + length u.fresh ≡ n
+      → IsStandingHeld s b rs xs cs' n'
+  held-unlanded b rs r xs x cs cs' n n' h stale count =
       let long = h.long in
       record {
         read = read;
@@ -142,7 +141,7 @@ module _ (s : Standing) (m : Map) (u : Update) (read : IsReadStanding s) (sound 
         long = omega (arith, length-append xs (x ∷ []));
         snapshots = snapshots-moved (landed_on format.Two m s) s s.floor xs (λ v low high y is. snapshot-unlanded v (omega (arith, length-append xs (x ∷ []))) y is) (snapshots-front (landed_on format.Two m s) s.floor xs x h.snapshots);
         short = all_front IsShortSnapshot xs x h.short;
-        marks = marks;
+        stale = stale;
         count = let all = h.count in let more = nodes-landed s m in let own = ap length landing.fresh in omega arith;
       }
 
@@ -163,9 +162,9 @@ module _ (s : Standing) (floor : ℕ) (low : s.floor ≤ floor) (high : floor �
   }
 
   -- what holds the standing under the later floor
-  pub held-floored : (b : ℕ) (rs : List (List ℕ)) (xs : List SnapshotValue) (ms ms' : List Mark) (n n' : ℕ) → IsStandingHeld s b rs xs ms n → AreMarksOf (with_floor floor s).nodes ms' → n' ≡ length (with_floor floor s).nodes
-      → IsStandingHeld (with_floor floor s) b rs (drop (floor - s.floor) xs) ms' n'
-  held-floored b rs xs ms ms' n n' h marks count =
+  pub held-floored : (b : ℕ) (rs : List (List ℕ)) (xs : List SnapshotValue) (cs cs' : List ℕ) (n n' : ℕ) → IsStandingHeld s b rs xs cs n → cs' ≡ stale_counts (with_floor floor s) → n' ≡ length (with_floor floor s).nodes
+      → IsStandingHeld (with_floor floor s) b rs (drop (floor - s.floor) xs) cs' n'
+  held-floored b rs xs cs cs' n n' h stale count =
       let long = h.long in
       record {
         read = floored-read h.read;
@@ -178,6 +177,6 @@ module _ (s : Standing) (floor : ℕ) (low : s.floor ≤ floor) (high : floor �
             (λ v up down x is. snapshot-moved s (with_floor floor s) v x (map-floored floor v s (omega arith)) (λ p. version_floored v p (omega arith)) is)
             (snapshots-drop s s.floor (floor - s.floor) xs h.snapshots));
         short = all_drop IsShortSnapshot (floor - s.floor) xs h.short;
-        marks = marks;
+        stale = stale;
         count = count;
       }

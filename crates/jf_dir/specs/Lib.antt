@@ -15,7 +15,6 @@ pub use Rattle.jf_standing.specs.Named
 pub use Rattle.jf_standing.specs.Next
 pub use Rattle.jf_standing.specs.Sound
 pub use Rattle.jf_standing.specs.Standing
-pub use Rattle.jf_stale.specs.Marks
 pub use Rattle.jf_node.specs.SnapshotValue
 pub use Rattle.jf_diff.specs.Landings
 pub use Rattle.jf_update.specs.Outcomes

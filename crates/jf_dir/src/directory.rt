@@ -23,16 +23,15 @@ ghost use Rattle.jf_dir.specs.Holding.{landing_update};
 use crate::counting::{node_count, sum_within};
 use crate::front::drop_front;
 use crate::listing::nodes_in_order;
-use crate::marking::{mark_each, take_marks, unmark_each};
 use crate::next_version::NextVersion;
 use crate::roots::{know_hashes, roots_with};
 use crate::shared_commit::SharedCommit;
+use crate::stale_counts::count_left;
 use jf_hash::Hash;
 use jf_join::{Gate, Workers};
 use jf_node::{Snapshot, Update};
-use jf_path::{Key, LiveList, Memory, NodeName, SharedBytes};
+use jf_path::{Key, LiveList, Memory, SharedBytes};
 use jf_split::Batch;
-use jf_stale::StaleIndex;
 use jf_update::{Written, advance, landing_lists, value_hashes};
 use std::alloc::Global;
 use std::collections::VecDeque;
@@ -47,8 +46,8 @@ pub struct Directory {
     roots: Vec<Hash>,
     // The snapshots of the versions from floor to head, the oldest first.
     snapshots: VecDeque<Snapshot>,
-    // A mark for each node that is stale.
-    marks: StaleIndex,
+    // The number of nodes that went stale at each version after the floor, the oldest version first.
+    stale: VecDeque<u64>,
     // The number of nodes that are kept.
     count: u64,
 }
@@ -62,7 +61,7 @@ impl Model for Directory {
 
     ghost view = { λ d. standing_held d.base d.roots.items d.snapshots.items };
 
-    ghost invariant = { λ d. IsStandingHeld (standing_held d.base d.roots.items d.snapshots.items) d.base d.roots.items d.snapshots.items d.marks d.count };
+    ghost invariant = { λ d. IsStandingHeld (standing_held d.base d.roots.items d.snapshots.items) d.base d.roots.items d.snapshots.items d.stale.items d.count };
 }
 
 impl Directory {
@@ -96,7 +95,7 @@ impl Directory {
             base,
             roots,
             snapshots,
-            marks: StaleIndex::new(alloc),
+            stale: VecDeque::new(alloc),
             count,
         })
     }
@@ -281,7 +280,7 @@ impl Directory {
         self.push_landing(
             update.root,
             update.fresh.len(),
-            update.stale.as_slice(),
+            update.stale.len(),
             snapshot,
         )
     }
@@ -304,39 +303,36 @@ impl Directory {
         self.push_landing(
             landing.root,
             landing.fresh.len(),
-            landing.stale.as_slice(),
+            landing.stale.len(),
             snapshot,
         )
     }
 
-    // Makes a landing on the head of which this is the root, the number of nodes that it writes, the names that it marks
-    // stale, and the snapshot. If memory runs out, the directory is unchanged.
+    // Makes a landing on the head of which this is the root, the number of nodes that it writes, the number of those that it
+    // makes stale, and the snapshot. If memory runs out, the directory is unchanged.
     fn push_landing(
         &mut self,
         root: Hash,
         fresh: u64,
-        names: &[NodeName],
+        stale: u64,
         snapshot: Snapshot,
     ) -> Result<(), Memory>
         requires landing { IsLandingUpdate self.old snapshot.map (landing_update self.old snapshot) }
         requires root { root ≡ (landing_update self.old snapshot).root }
         requires fresh { fresh ≡ length (landing_update self.old snapshot).fresh }
-        requires stale { names.now ≡ (landing_update self.old snapshot).stale }
+        requires stale { stale ≡ length (landing_update self.old snapshot).stale }
         requires room { len snapshot.map ≤ 2 ^ 63 }
         ensures ok { OnOk result (self.new ≡ landed_on format.Two snapshot.map self.old) }
         ensures err { OnErr result (self.new ≡ self.old) }
     {
         snapshot.know();
-        let since = snapshot.version();
         let count = sum_within(self.count, fresh)?;
         self.roots.reserve(1)?;
         self.snapshots.reserve(1)?;
-        if let Err(fault) = mark_each(&mut self.marks, since, names) {
-            unmark_each(&mut self.marks, since, names);
-            return Err(fault);
-        }
+        self.stale.reserve(1)?;
         self.roots.push_reserved(root);
         self.snapshots.push_back_reserved(snapshot);
+        self.stale.push_back_reserved(stale);
         self.count = count;
         Ok(())
     }
@@ -347,7 +343,7 @@ impl Directory {
         ensures { (s : Standing) → IsReadStanding s → IsSound format.Two s → IsLandingUpdate s update.now.snapshot.map update.now → self.old ≡ landed_on format.Two update.now.snapshot.map s → self.new ≡ s }
     {
         update.snapshot.know();
-        self.pop_landing(update.fresh.len(), update.stale.as_slice());
+        self.pop_landing(update.fresh.len());
     }
 
     /// Takes back the landing that made the head, given as what it writes. It takes no memory.
@@ -355,20 +351,19 @@ impl Directory {
         requires made { (s : Standing) × (m : Map) × IsReadStanding s × IsSound format.Two s × IsMap m × (landing.now ≡ landing_of format.Two s m) × (self.old ≡ landed_on format.Two m s) }
         ensures { (s : Standing) (m : Map) → IsReadStanding s → IsSound format.Two s → IsMap m → landing.now ≡ landing_of format.Two s m → self.old ≡ landed_on format.Two m s → self.new ≡ s }
     {
-        self.pop_landing(landing.fresh.len(), landing.stale.as_slice());
+        self.pop_landing(landing.fresh.len());
     }
 
-    // Takes back the landing that made the head, which wrote so many nodes and marked these names stale.
-    fn pop_landing(&mut self, fresh: u64, stale: &[NodeName])
-        requires made { (s : Standing) × (m : Map) × IsReadStanding s × IsSound format.Two s × IsMap m × (fresh ≡ length (landing_of format.Two s m).fresh) × (stale.now ≡ (landing_of format.Two s m).stale) × (self.old ≡ landed_on format.Two m s) }
-        ensures { (s : Standing) (m : Map) → IsReadStanding s → IsSound format.Two s → IsMap m → fresh ≡ length (landing_of format.Two s m).fresh → stale.now ≡ (landing_of format.Two s m).stale → self.old ≡ landed_on format.Two m s → self.new ≡ s }
+    // Takes back the landing that made the head, which wrote so many nodes.
+    fn pop_landing(&mut self, fresh: u64)
+        requires made { (s : Standing) × (m : Map) × IsReadStanding s × IsSound format.Two s × IsMap m × (fresh ≡ length (landing_of format.Two s m).fresh) × (self.old ≡ landed_on format.Two m s) }
+        ensures { (s : Standing) (m : Map) → IsReadStanding s → IsSound format.Two s → IsMap m → fresh ≡ length (landing_of format.Two s m).fresh → self.old ≡ landed_on format.Two m s → self.new ≡ s }
     {
         let newest = self.newest();
         newest.know();
-        let since = newest.version();
-        unmark_each(&mut self.marks, since, stale);
         let _ = self.snapshots.pop_back();
         let _ = self.roots.pop();
+        let _ = self.stale.pop_back();
         self.count -= fresh;
     }
 
@@ -380,7 +375,7 @@ impl Directory {
     {
         let versions = floor - self.floor();
         drop_front(&mut self.snapshots, versions);
-        self.count -= take_marks(&mut self.marks, floor);
+        self.count = count_left(&mut self.stale, versions, self.count);
     }
 
     /// The nodes that are kept, in the order of their names, each with the version since which it is stale.

@@ -5,11 +5,11 @@ mod counting;
 mod directory;
 mod front;
 mod listing;
-mod marking;
 mod next_version;
 mod restoring;
 mod roots;
 mod shared_commit;
+mod stale_counts;
 
 pub use directory::Directory;
 pub use next_version::NextVersion;

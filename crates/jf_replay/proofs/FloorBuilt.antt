@@ -37,10 +37,10 @@ use Rattle.jf_node.specs.SnapshotValue.{SnapshotValue}
 use Rattle.jf_node.specs.Snapshots.{IsSnapshot, snapshot_version_at}
 use Rattle.jf_diff.specs.Landings.{version_in, version_or}
 use Rattle.jf_dir.specs.Directories.{snapshot_standing}
+use Rattle.jf_standing.proofs.Rising.{rising-filter}
 use Rattle.jf_replay.specs.Cuts.{standing_by, nodes_by, named_by, is_written_by}
 use Rattle.jf_replay.specs.Floors.{listed_in, same_listed}
 use Rattle.jf_replay.proofs.CutSound.{sound-by, map-nodes_by, version-nodes_by}
-use Rattle.jf_replay.proofs.Fronts.{rising-filter}
 
 -- nodes whose names rise are equal if they are the same nodes
 pub same_rising : (xs ys : List NamedNode) → IsTrue (are_rising (map (λ n. n.0) xs)) → IsTrue (are_rising (map (λ n. n.0) ys)) → ((n : NamedNode) → Contains xs n → Contains ys n) → ((n : NamedNode) → Contains ys n → Contains xs n) → xs ≡ ys

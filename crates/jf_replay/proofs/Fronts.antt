@@ -1,22 +1,16 @@
 -- A further element after the front of a list, in lists that rise.
 use Rattle.std.specs.Prelude.{IsTrue}
-use Rattle.std.proofs.Common.{◌≡◌, ℕ, ◌+◌, ◌<◌, Bool, true, false, cond, ◌==◌, List, [], ◌∷◌, ◌++◌, map, filter, take, drop, length, get_or, refl, sym, ap, ◌∙◌, subst, arith, T, suc, take-suc, append-nil}
+use Rattle.std.proofs.Common.{◌≡◌, ℕ, ◌+◌, ◌<◌, Bool, true, false, cond, ◌==◌, List, [], ◌∷◌, ◌++◌, map, take, drop, length, get_or, refl, sym, ap, ◌∙◌, subst, arith, suc, take-suc, append-nil}
 use Rattle.std.proofs.lemmas.List.{take-append-drop, map-append}
 use Rattle.std.proofs.lemmas.List.Elements.{filter-append}
-use Rattle.std.specs.FinMap.{is_sorted}
-use Rattle.std.specs.FinMap.Entries.{below_all}
 use Rattle.jf_path.specs.declared.children.Child.{Child}
 use Rattle.jf_path.specs.declared.name.NodeName.{NodeName}
 use Rattle.jf_path.specs.declared.node.PlainNode.{PlainNode}
-use Rattle.jf_path.specs.Names.{name_cmp, are_rising}
+use Rattle.jf_path.specs.Names.{are_rising}
 use Rattle.jf_path.specs.Nodes.{ChildrenRiseFrom}
-use Rattle.jf_path.proofs.BoolLaws.{left_so, right_so, both_so}
 use Rattle.jf_path.proofs.NumberLaws.{same_number}
 use Rattle.jf_standing.specs.Named.{NamedNode, is_stale, stale_nodes_at}
-use Rattle.jf_standing.specs.Building.{apart}
-use Rattle.jf_standing.proofs.Names.{are_rising-sorted}
-use Rattle.jf_standing.proofs.Rising.{sorted-are_rising}
-use Rattle.jf_standing.proofs.Checkpoints.{apart_names}
+use Rattle.jf_standing.proofs.Rising.{rising-filter}
 use Rattle.jf_diff.proofs.Names.{are_rising-front}
 use Rattle.jf_replay.specs.Cuts.{without_since}
 
@@ -32,25 +26,7 @@ pub children-next : (cs : List Child) (i : ℕ) (d c : Child) → i < length cs 
 children-next cs i d c within at rises = subst (ChildrenRiseFrom 0) (take-next cs i d c within at) (rise_front 0 (take (i + 1) cs) (drop (i + 1) cs) (subst (ChildrenRiseFrom 0) (sym (take-append-drop (i + 1) cs)) rises))
 
 -- ---- named nodes
-below_kept : (k : NodeName) (test : NamedNode → Bool) (ns : List NamedNode) → T (below_all name_cmp k (map apart ns)) → T (below_all name_cmp k (map apart (filter test ns)))
-below_kept k test [] h = tt
-below_kept k test (n ∷ ns) h = elim (test n) as (λ b. T (below_all name_cmp k (map apart (cond b (n ∷ filter test ns) (filter test ns))))) [
-  | true ↦ both_so _ _ (left_so _ _ h) (below_kept k test ns (right_so _ _ h))
-  | false ↦ below_kept k test ns (right_so _ _ h)
-]
-
-kept_sorted : (test : NamedNode → Bool) (ns : List NamedNode) → T (is_sorted name_cmp (map apart ns)) → T (is_sorted name_cmp (map apart (filter test ns)))
-kept_sorted test [] h = tt
-kept_sorted test (n ∷ ns) h = elim (test n) as (λ b. T (is_sorted name_cmp (map apart (cond b (n ∷ filter test ns) (filter test ns))))) [
-  | true ↦ both_so _ _ (below_kept n.0 test ns (left_so _ _ h)) (kept_sorted test ns (right_so _ _ h))
-  | false ↦ kept_sorted test ns (right_so _ _ h)
-]
-
--- the names of nodes that a filter keeps still rise
-pub rising-filter : (test : NamedNode → Bool) (ns : List NamedNode) → IsTrue (are_rising (map (λ n. n.0) ns)) → IsTrue (are_rising (map (λ n. n.0) (filter test ns)))
-rising-filter test ns rises = subst (λ xs. IsTrue (are_rising xs)) (apart_names (filter test ns)) (sorted-are_rising (map apart (filter test ns)) (kept_sorted test ns (are_rising-sorted (map apart ns) (subst (λ xs. IsTrue (are_rising xs)) (sym (apart_names ns)) rises))))
-
--- and so do those of the nodes at the front
+-- the names of nodes at the front still rise
 pub rising-take : (i : ℕ) (ns : List NamedNode) → IsTrue (are_rising (map (λ n. n.0) ns)) → IsTrue (are_rising (map (λ n. n.0) (take i ns)))
 rising-take i ns rises = are_rising-front (map (λ n. n.0) (take i ns)) (map (λ n. n.0) (drop i ns)) (subst (λ xs. IsTrue (are_rising xs)) (sym (sym (map-append (λ (n : NamedNode). n.0) (take i ns) (drop i ns)) ∙ ap (map (λ (n : NamedNode). n.0)) (take-append-drop i ns))) rises)
 

@@ -20,10 +20,10 @@ use Rattle.jf_standing.specs.Next.{IsReadStanding}
 use Rattle.jf_standing.specs.Sound.{IsSound}
 use Rattle.jf_standing.specs.Taking.{Continues}
 use Rattle.jf_standing.proofs.Lists.{All-each_element, map-which}
+use Rattle.jf_standing.proofs.Rising.{rising-filter}
 use Rattle.jf_replay.specs.Cuts.{has_numbers, names_beside, landing_listed, landing_making, standing_by, standing_listed, without_since}
 use Rattle.jf_replay.proofs.CutLands.{standing-landed, landing-continues, standing-head, sound-numbered}
 use Rattle.jf_replay.proofs.CutSound.{sound-by}
-use Rattle.jf_replay.proofs.Fronts.{rising-filter}
 use Rattle.jf_replay.proofs.Numbered.{IsNumbered, all-numbered, numbered-all}
 
 -- what holds of each node when all nodes have a spelling

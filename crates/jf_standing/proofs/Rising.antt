@@ -12,6 +12,7 @@ use Rattle.jf_path.specs.declared.name.NodeName.{NodeName}
 use Rattle.jf_path.specs.declared.node.PlainNode.{PlainNode}
 use Rattle.jf_path.specs.Keys.{IsKey, IsBytes}
 use Rattle.jf_path.proofs.BoolLaws.{left_so, right_so, true_from_T, both_so}
+use Rattle.jf_path.proofs.FilterLaws.{filter-map}
 use Rattle.jf_path.proofs.OrderLaws.{is_lt-from_Less, nat_less}
 use Rattle.jf_path.proofs.ListLaws.{All-of, Contains-first}
 use Rattle.jf_hash.specs.Maps.{Map, IsMap}
@@ -99,16 +100,13 @@ module _ {X : Type 0} where
   sorted_filter p [] h = tt
   sorted_filter p (e ∷ es) h = elim (p e) as (λ b. T (is_sorted name_cmp (cond b (e ∷ filter p es) (filter p es)))) [ true ↦ both_so _ _ (below_filter e.0 p es (left_so _ _ h)) (sorted_filter p es (right_so _ _ h)) | false ↦ sorted_filter p es (right_so _ _ h) ]
 
--- names still rise under a floor
+-- the names of nodes that a filter keeps still rise
+pub rising-filter : (test : NamedNode → Bool) (ns : List NamedNode) → IsTrue (are_rising (map (λ n. n.0) ns)) → IsTrue (are_rising (map (λ n. n.0) (filter test ns)))
+rising-filter test ns rises = pairs_rise (filter test ns) (subst (λ es. T (is_sorted name_cmp es)) (filter-map (λ (e : NodeName × (PlainNode × ℕ)). test (e.0, e.1.0, e.1.1)) apart ns) (sorted_filter (λ e. test (e.0, e.1.0, e.1.1)) (pairs ns) (pairs_sorted ns rises)))
+
+-- and so do those of the nodes under a floor
 pub are_rising-floored : (s : Standing) (floor : ℕ) → IsTrue (are_rising (map (λ n. n.0) s.nodes)) → IsTrue (are_rising (map (λ n. n.0) (with_floor floor s).nodes))
-are_rising-floored s floor rises = pairs_rise (with_floor floor s).nodes (subst (λ es. T (is_sorted name_cmp es)) (same s.nodes) (sorted_filter (λ e. nat_lt floor e.1.1) (pairs s.nodes) (pairs_sorted s.nodes rises)))
-  where
-    same : (ns : List NamedNode) → filter (λ e. nat_lt floor e.1.1) (pairs ns) ≡ pairs (filter (λ n. nat_lt floor n.2) ns)
-    same [] = refl
-    same (n ∷ ns) = elim (nat_lt floor n.2) as (λ b. cond b ((n.0, (n.1, n.2)) ∷ filter (λ e. nat_lt floor e.1.1) (pairs ns)) (filter (λ e. nat_lt floor e.1.1) (pairs ns)) ≡ pairs (cond b (n ∷ filter (λ n. nat_lt floor n.2) ns) (filter (λ n. nat_lt floor n.2) ns))) [
-      | true ↦ ap (λ t. (n.0, (n.1, n.2)) ∷ t) (same ns)
-      | false ↦ same ns
-    ]
+are_rising-floored s floor rises = rising-filter (λ n. nat_lt floor n.2) s.nodes rises
 
 -- ---- the names that a landing of a map writes
 pub landing-read : (fmt : Format) (s : Standing) (m : Map) → IsMap m → IsReadCommit (landing_of fmt s m)

@@ -7,7 +7,7 @@ use Rattle.jf_dir.proofs.directory.Directory.at.Goals as goal
 
 pub returns-clause-snapshot : goal.returns-clause-snapshot
 returns-clause-snapshot c =
-    let h = subst (λ (s : Standing). IsStandingHeld s c.self.inside.base c.self.inside.roots.items c.self.inside.snapshots.items c.self.inside.marks c.self.inside.count) c.self.view_is c.self.invariant in
+    let h = subst (λ (s : Standing). IsStandingHeld s c.self.inside.base c.self.inside.roots.items c.self.inside.snapshots.items c.self.inside.stale.items c.self.inside.count) c.self.view_is c.self.invariant in
     let xs = c.self.inside.snapshots.items in
     let x = c.in_ok-snapshot.snapshot.now in
     let place = c.in_ok-place.ensures.1 ∙ ap (λ f. c.args.version - f) c.floor.ensures in

@@ -6,4 +6,4 @@ pub pop_landing-requires : goal.pop_landing-requires
 pop_landing-requires c =
     let made = c.requires.made in
     let is = c.landing.view_is ∙ made.5 in
-    record { made = (made.0, made.1, made.2, made.3, made.4, c.len.ensures ∙ ap (λ (k : Commit). length k.fresh) is, c.as_slice.ensures.value ∙ ap (λ (k : Commit). k.stale) is, made.6) }
+    record { made = (made.0, made.1, made.2, made.3, made.4, c.len.ensures ∙ ap (λ (k : Commit). length k.fresh) is, made.6) }
