@@ -1,5 +1,5 @@
 //! The window itself: one word, one slot, in a table.
-ghost use Rattle.std.specs.Prelude.{◌≡◌, ◌≢◌, ◌<◌, [], ◌∷◌, Some, None, IfOk};
+ghost use Rattle.std.specs.Prelude.{◌≡◌, ◌≢◌, ◌<◌, [], ◌∷◌, Some, None, true, false, IfOk};
 ghost use Rattle.jf_window.specs.declared.view.Grasp.TheVariants.{Full};
 ghost use Rattle.jf_window.specs.Rule.{newcomer};
 ghost use Rattle.jf_window.specs.Steps.{with_grasp};
@@ -11,8 +11,12 @@ use crate::steps::{Claim, Enter, Release};
 use crate::view::WindowView;
 use atomic_table::{Refused, Seat as Token, Table};
 use std::alloc::{AllocError, Global};
+use std::hint::spin_loop;
 use std::marker::Model;
 use std::sync::Wait;
+
+/// How often the word is tried before one waits.
+const TRIES: u32 = 64;
 
 /// A window that shows a value, which fits a key. Threads share it by `&`.
 pub struct Window<K, T: Fits<K>> {
@@ -56,6 +60,24 @@ impl<K, T: Fits<K>> Window<K, T> {
         self.table.shared.compare_exchange::<Claim>(token, 0, 0, 1)
     }
 
+    // Takes the slot if the word is 0 at one of some tries, and returns whether it was. Whoever has the value holds it for a
+    // moment, so this is mostly shorter than to wait.
+    fn claim_soon(&self, token: &mut Token<Option<T>, WindowView<K>>) -> bool
+        requires own { token.old.table_id ≡ self.now.id }
+        requires away { token.old.me ≡ (newcomer self.now.key, []) }
+        ensures rest { token.new.table_id ≡ token.old.table_id }
+        ensures hit { result ≡ true → (y : T) × (token.new.me ≡ (with_grasp token.old.me.0 Full, (0, Some y) ∷ [])) × T.fits self.now.key y }
+        ensures miss { result ≡ false → token.new.me ≡ token.old.me }
+    {
+        for _ in 0..TRIES {
+            if self.claim(token) == 0 {
+                return true;
+            }
+            spin_loop();
+        }
+        false
+    }
+
     // Takes the slot if the word is 0. The word becomes 2, which says that somebody waits.
     fn claim_or_mark(&self, token: &mut Token<Option<T>, WindowView<K>>) -> u64
         requires own { token.old.table_id ≡ self.now.id }
@@ -87,7 +109,7 @@ impl<K, T: Fits<K>> Window<K, T> {
         ensures holds { token.new.me ≡ (with_grasp token.old.me.0 Full, (0, None) ∷ []) }
         ensures fits { T.fits self.now.key result }
     {
-        if self.claim(token) == 0 {
+        if self.claim_soon(token) {
             return self.fetch(token);
         }
         for _ in rt.forever() {
