@@ -8,7 +8,7 @@ use Rattle.std.proofs.lemmas.Option.{slice_get-get_or}
 use Rattle.jf_path.specs.Bitmaps.{present, spread_items}
 use Rattle.jf_path.proofs.BitmapLaws.{count_by-set, count_by-clear}
 use Rattle.jf_hash.specs.Slots.{occupants, first_child_hash, range_hash}
-use Rattle.jf_hash.specs.Ranges.{is_many, kept_hash, kept_hashes, kept_within}
+use Rattle.jf_hash.specs.Ranges.{is_many, kept_below, kept_hash, kept_hashes, kept_within}
 use Rattle.jf_hash.specs.declared.slot.Slot.{Slot}
 use Rattle.jf_hash.proofs.RangeLaws.{last_at, some_power}
 use Rattle.jf_hash.proofs.KeptLaws.{kept_within-few, range_hash-few, range_hash-place}
@@ -146,13 +146,15 @@ bits-many level slots many =
     ∙ sym (append_assoc (map is_some lefts) (map is_some rights) (is_some (kept_hash (suc level) slots) ∷ []))
     ∙ ap (λ b. (map is_some lefts ++ map is_some rights) ++ b ∷ []) (is_some-kept_hash (suc level) slots ∙ many)
 
--- of all ranges: those of the fifteen, and one that is clear
-pub bits-all : (slots : List Slot) → map is_some (kept_within 4 slots) ++ false ∷ [] ≡ map is_some (kept_hashes slots)
-bits-all slots = sym (map-append is_some (kept_within 4 slots) (None ∷ []))
+-- of all ranges: those of the fourteen, and two that are clear
+pub bits-all : (slots : List Slot) → (map is_some (kept_within 3 (take 8 slots)) ++ map is_some (kept_within 3 (drop 8 slots))) ++ false ∷ false ∷ [] ≡ map is_some (kept_hashes slots)
+bits-all slots =
+    ap (λ t. t ++ false ∷ false ∷ []) (sym (map-append is_some (kept_within 3 (take 8 slots)) (kept_within 3 (drop 8 slots)))) ∙ sym (map-append is_some (kept_below slots) (None ∷ None ∷ []))
 
-pub present-all : (slots : List Slot) → present (kept_within 4 slots) ≡ present (kept_hashes slots)
+pub present-all : (slots : List Slot) → present (kept_within 3 (take 8 slots)) ++ present (kept_within 3 (drop 8 slots)) ≡ present (kept_hashes slots)
 unfolding present
-present-all slots = sym (present-append (kept_within 4 slots) (None ∷ []) ∙ append-nil (present (kept_within 4 slots)))
+present-all slots =
+    sym (present-append (kept_within 3 (take 8 slots)) (kept_within 3 (drop 8 slots))) ∙ sym (present-append (kept_below slots) (None ∷ None ∷ []) ∙ append-nil (present (kept_below slots)))
 
 -- one bit more is set after some bits, where the rest is clear
 pub set-next : (bits : List Bool) (i n m : ℕ) → length bits ≡ i → n ≡ m + 1 → set (bits ++ replicate n false) i true ≡ (bits ++ true ∷ []) ++ replicate m false

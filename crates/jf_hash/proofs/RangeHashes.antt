@@ -6,7 +6,7 @@ use Rattle.std.proofs.lemmas.List.{drop-take}
 use Rattle.jf_hash.specs.Ranges.{Agree, has_change, is_many, kept_hash, kept_hashes, kept_within}
 use Rattle.jf_hash.specs.declared.slot.Slot.{Slot}
 use Rattle.jf_hash.specs.Slots.{Occupants, Empty, Lone, Many, range_hash, occupants, occupants_hash}
-use Rattle.jf_hash.specs.Hashes.{N}
+use Rattle.jf_hash.specs.Hashes.{E, N}
 use Rattle.jf_hash.specs.declared.slot.Slot.TheVariants as slot
 use Rattle.jf_hash.proofs.RangeLaws.{length-kept_within}
 use Rattle.jf_hash.proofs.Halves.{range_hash-halves, left_half, right_half}
@@ -131,6 +131,23 @@ appended before lefts rights all last is = ap (λ t. t ++ last ∷ []) (append_a
 
 pub length-appended : {X : Type 0} (lefts rights all : List X) (last : X) → all ≡ (lefts ++ rights) ++ last ∷ [] → length all ≡ length lefts + length rights + 1
 length-appended lefts rights all last is = ap length is ∙ length-append (lefts ++ rights) (last ∷ []) ∙ ap (λ n. n + 1) (length-append lefts rights)
+
+-- what was kept of the first eight places, and of the last
+pub before_left : (olds : List Slot) (hashes : List (Option (List ℕ))) → hashes ≡ kept_hashes olds → take 7 hashes ≡ kept_within 3 (take 8 olds)
+before_left olds hashes was =
+    ap (take 7) (was ∙ append_assoc (kept_within 3 (take 8 olds)) (kept_within 3 (drop 8 olds)) (None ∷ None ∷ []))
+    ∙ take_at (kept_within 3 (take 8 olds)) _ 7 (omega (arith, length-kept_within 3 (take 8 olds)))
+
+pub before_right : (olds : List Slot) (hashes : List (Option (List ℕ))) → hashes ≡ kept_hashes olds → take 7 (drop 7 hashes) ≡ kept_within 3 (drop 8 olds)
+before_right olds hashes was =
+    ap (λ hs. take 7 (drop 7 hs)) (was ∙ append_assoc (kept_within 3 (take 8 olds)) (kept_within 3 (drop 8 olds)) (None ∷ None ∷ []))
+    ∙ ap (take 7) (drop_at (kept_within 3 (take 8 olds)) _ 7 (omega (arith, length-kept_within 3 (take 8 olds))))
+    ∙ take_at (kept_within 3 (drop 8 olds)) _ 7 (omega (arith, length-kept_within 3 (drop 8 olds)))
+
+-- the hash of places without a child
+pub range_hash-none : range_hash 4 (replicate 16 slot.Absent) ≡ E
+unfolding range_hash
+range_hash-none = refl
 
 -- nothing is kept of places without a child
 pub kept_hashes-none : replicate 16 None ≡ kept_hashes (replicate 16 slot.Absent)

@@ -1,4 +1,4 @@
--- Where what is kept of each range stands among the fifteen, and how many pairs are hashed for them.
+-- Where what is kept of each range stands among the fourteen, and how many pairs are hashed for them.
 use Rattle.std.specs.Prelude.{ℕ, zero, suc, ◌-◌, ◌^◌, ◌≤◌, ◌≡◌, ◌+◌, Option, None, List, [], ◌∷◌, ◌++◌, length, take, drop, ◌<◌, ◌%◌, ◌⊎◌, Bool, true, false, cond, ◌&&◌, ◌*◌}
 use Rattle.std.proofs.Common.{arith, pow-suc, refl, length-append, get_or, sym, ap, ◌∙◌, append_assoc, inl, inr, ap₂, length-take-le, length-drop, take_all, take-take, drop-drop, eq-or-lt_of_le}
 use Rattle.std.proofs.Math.Nat.{mul-add}
@@ -7,7 +7,7 @@ use Rattle.std.proofs.lemmas.List.{drop-take, get_or_append_left, get_or-append-
 use Rattle.std.proofs.lemmas.List.Sums.{sum_by-cons, sum_by-take-drop}
 use Rattle.std.specs.List.{count_by}
 use Rattle.jf_hash.specs.Slots.{occupants}
-use Rattle.jf_hash.specs.Ranges.{kept_hash, kept_within, range_index, IsRange, kept_hashes, has_change, is_many, pairs_within}
+use Rattle.jf_hash.specs.Ranges.{kept_below, kept_hash, kept_within, range_index, IsRange, kept_hashes, has_change, is_many, pairs_within}
 use Rattle.jf_hash.specs.declared.slot.Slot.{Slot}
 
 pub some_power : (level : ℕ) → 1 ≤ 2 ^ level
@@ -141,7 +141,7 @@ IsRange-of_level (suc (suc (suc zero))) start small aligned lt = record { wide =
 IsRange-of_level (suc (suc (suc (suc zero)))) start small aligned lt = record { wide = inr (inr (inr (inr refl))); aligned = aligned; within = lt }
 IsRange-of_level (suc (suc (suc (suc (suc n))))) start small aligned lt = absurd (omega arith)
 
--- ---- what the fifteen are
+-- ---- what the ranges are
 pub fits_all : (level start : ℕ) → level ≤ 4 → start % 2 ^ level ≡ 0 → start < 16 → start + 2 ^ level ≤ 16
 fits_all zero start small aligned lt = omega arith
 fits_all (suc zero) start small aligned lt = omega arith
@@ -150,24 +150,31 @@ fits_all (suc (suc (suc zero))) start small aligned lt = omega arith
 fits_all (suc (suc (suc (suc zero)))) start small aligned lt = omega arith
 fits_all (suc (suc (suc (suc (suc n))))) start small aligned lt = absurd (omega arith)
 
-pub range_index-small : (level start : ℕ) → 1 ≤ level → level ≤ 4 → start % 2 ^ level ≡ 0 → start < 16 → range_index start (2 ^ level) < 15
+pub range_index-small : (level start : ℕ) → 1 ≤ level → level ≤ 3 → start % 2 ^ level ≡ 0 → start < 16 → range_index start (2 ^ level) < 14
 range_index-small zero start some small aligned lt = absurd (omega arith)
 range_index-small (suc zero) start some small aligned lt = omega arith
 range_index-small (suc (suc zero)) start some small aligned lt = omega arith
 range_index-small (suc (suc (suc zero))) start some small aligned lt = omega arith
-range_index-small (suc (suc (suc (suc zero)))) start some small aligned lt = omega arith
-range_index-small (suc (suc (suc (suc (suc n))))) start some small aligned lt = absurd (omega arith)
+range_index-small (suc (suc (suc (suc n)))) start some small aligned lt = absurd (omega arith)
+
+pub length-kept_below : (slots : List Slot) → length (kept_below slots) ≡ 14
+length-kept_below slots = omega (arith, length-append (kept_within 3 (take 8 slots)) (kept_within 3 (drop 8 slots)), length-kept_within 3 (take 8 slots), length-kept_within 3 (drop 8 slots))
+
+-- with that of all places they are what is kept within these
+below_all : (slots : List Slot) → kept_within 4 slots ≡ kept_below slots ++ kept_hash 4 slots ∷ []
+unfolding kept_within
+below_all slots = sym (append_assoc (kept_within 3 (take 8 slots)) (kept_within 3 (drop 8 slots)) (kept_hash 4 slots ∷ []))
 
 -- what is kept of each range stands at its place
-pub kept_hashes-at : (level start : ℕ) (slots : List Slot) (d : Option (List ℕ)) → 1 ≤ level → level ≤ 4 → start % 2 ^ level ≡ 0 → start < 16 → length slots ≡ 16
+pub kept_hashes-at : (level start : ℕ) (slots : List Slot) (d : Option (List ℕ)) → 1 ≤ level → level ≤ 3 → start % 2 ^ level ≡ 0 → start < 16 → length slots ≡ 16
     → get_or (kept_hashes slots) (range_index start (2 ^ level)) d ≡ kept_hash level (take (2 ^ level) (drop start slots))
 kept_hashes-at level start slots d some small aligned lt long =
-    get_or_append_left (kept_within 4 slots) (None ∷ []) d (range_index start (2 ^ level)) (omega (arith, range_index-small level start some small aligned lt, length-kept_within 4 slots))
-    ∙ within_at 4 level start slots d some small (omega arith) aligned (fits_all level start small aligned lt) long
-
--- the last of the fifteen is that of all places
-pub kept_hashes-top : (slots : List Slot) (d : Option (List ℕ)) → get_or (kept_hashes slots) 14 d ≡ kept_hash 4 slots
-kept_hashes-top slots d = get_or_append_left (kept_within 4 slots) (None ∷ []) d 14 (omega (arith, length-kept_within 4 slots)) ∙ within_whole 4 slots 14 d (omega arith) refl
+    let n = range_index start (2 ^ level) in
+    let before : n < length (kept_below slots) = omega (arith, range_index-small level start some small aligned lt, length-kept_below slots) in
+    get_or_append_left (kept_below slots) (None ∷ None ∷ []) d n before
+    ∙ sym (get_or_append_left (kept_below slots) (kept_hash 4 slots ∷ []) d n before)
+    ∙ ap (λ hs. get_or hs n d) (sym (below_all slots))
+    ∙ within_at 4 level start slots d some (omega arith) (omega arith) aligned (fits_all level start (omega arith) aligned lt) long
 
 -- ---- how many pairs are hashed
 -- no pair is hashed if no place changed

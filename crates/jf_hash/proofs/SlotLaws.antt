@@ -208,7 +208,7 @@ range_hash-slots_of (suc l) d start es small below lt aligned =
     ∙ part_root-occupants j part (omega arith) ∙ ap (λ k. part_root k part) (let e : j ≡ 4 * d + (4 - suc l) = omega arith in e)
 
 -- ---- all places
-all_of : {X : Type 0} (d : ℕ) (es : List (List ℕ × X)) → in_range d 0 16 es ≡ es
+pub all_of : {X : Type 0} (d : ℕ) (es : List (List ℕ × X)) → in_range d 0 16 es ≡ es
 all_of d [] = refl
 all_of d (e ∷ es) = ap₂ (λ b t. cond b (e ∷ t) t) (any_nibble (nibble e.0 d) (nibble-small e.0 d)) (all_of d es)
   where

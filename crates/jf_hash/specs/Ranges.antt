@@ -41,11 +41,15 @@ unfoldable pub kept_within : ℕ → List Slot → List (Option (List ℕ))
 kept_within zero slots = []
 kept_within (suc level) slots = kept_within level (take (2 ^ level) slots) ++ (kept_within level (drop (2 ^ level) slots) ++ kept_hash (suc level) slots ∷ [])
 
--- what a node keeps of the ranges of its sixteen places: fifteen, and the last of sixteen is always empty
-abbrev pub kept_hashes : List Slot → List (Option (List ℕ))
-kept_hashes slots = kept_within 4 slots ++ None ∷ []
+-- what is kept of the ranges of two to eight places among sixteen: those of the first eight, and then of the last
+abbrev pub kept_below : List Slot → List (Option (List ℕ))
+kept_below slots = kept_within 3 (take 8 slots) ++ kept_within 3 (drop 8 slots)
 
--- the place of a range among the fifteen: after the ranges before it and within it
+-- what a node keeps of the ranges of its sixteen places: fourteen, and the last two of sixteen are always empty
+abbrev pub kept_hashes : List Slot → List (Option (List ℕ))
+kept_hashes slots = kept_below slots ++ None ∷ None ∷ []
+
+-- the place of a range among the fourteen: after the ranges before it and within it
 abbrev pub range_index : ℕ → ℕ → ℕ
 range_index start width = start / 2 + start / 4 + start / 8 + (width - 2)
 

@@ -52,13 +52,14 @@ impl Occupied {
         children > 1 || children == 1 && self.leaves.count(start, width) == 0
     }
 
-    /// Which of the fifteen ranges of two places or more hold more than one leaf, each after its halves.
+    /// Which of the fourteen ranges of two to eight places hold more than one leaf, each after its halves.
     pub fn kept_ranges(&self) -> Bitmap
         // For the bits of sixteen places, the result has a bit set exactly where `kept_hashes` has a hash of them.
         ensures { (slots : List Slot) → length slots ≡ 16 → self.now.children ≡ map is_occupied slots → self.now.leaves ≡ map holds_leaf slots → result ≡ map is_some (kept_hashes slots) }
     {
         let mut kept = Bitmap::none();
-        self.mark(0, 0, 16, &mut kept);
+        self.mark(0, 0, 8, &mut kept);
+        self.mark(7, 8, 8, &mut kept);
         kept
     }
 

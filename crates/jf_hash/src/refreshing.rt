@@ -1,9 +1,9 @@
 // The hashes that are kept of a node's ranges are made anew from its places, from the smallest range on.
-ghost use Rattle.std.specs.Prelude.{◌≡◌, ℕ, ◌+◌, ◌-◌, ◌^◌, ◌≤◌, ◌++◌, List, length, map, take, drop, vec_capacity};
+ghost use Rattle.std.specs.Prelude.{◌≡◌, ℕ, ◌+◌, ◌-◌, ◌^◌, ◌≤◌, ◌++◌, ◌&&◌, List, cond, length, map, take, drop, vec_capacity};
 ghost use Rattle.jf_path.specs.Bitmaps.{present};
 ghost use Rattle.jf_hash.specs.Hashes.{N};
-ghost use Rattle.jf_hash.specs.Slots.{first_child_hash, is_occupied, holds_leaf, range_hash};
-ghost use Rattle.jf_hash.specs.Ranges.{Agree, kept_within, pairs_within};
+ghost use Rattle.jf_hash.specs.Slots.{first_child_hash, is_occupied, holds_leaf, occupants, range_hash};
+ghost use Rattle.jf_hash.specs.Ranges.{Agree, has_change, is_many, kept_within, pairs_within};
 ghost use Rattle.jf_hash.specs.declared.slot.Slot.{Slot};
 
 use crate::occupied::Occupied;
@@ -70,7 +70,7 @@ pub fn refresh<P: Places, L: Ledger>(
 ) -> Hash
     // The range ends within the sixteen places.
     requires within { start + width ≤ 16 }
-    // The `width - 1` ranges that are kept from `first` on are among the fifteen.
+    // There are bits for the `width - 1` ranges that are kept from `first` on.
     requires places { first + width ≤ 16 }
     // The range has at least one place.
     requires positive { 1 ≤ width }
@@ -116,4 +116,37 @@ pub fn refresh<P: Places, L: Ledger>(
     let hash = hash_pair(&left, &right, steps);
     let _ = out.push(hash);
     hash
+}
+
+// The hash of all places, from those of their two halves. `changed` says at which places something may have changed, and
+// `old` is what the hash was before. It is hashed only if a place changed and more than one leaf is there.
+pub fn refresh_top<P: Places, L: Ledger>(
+    places: &P,
+    occupied: &Occupied,
+    old: &Hash,
+    changed: Bitmap,
+    left: &Hash,
+    right: &Hash,
+    steps: &mut Steps<L>,
+) -> Hash
+    // There are sixteen places.
+    requires long { length (P.slots places.now) ≡ 16 }
+    // `occupied` says at which of these places a child stands.
+    requires children { occupied.now.children ≡ map is_occupied (P.slots places.now) }
+    // `occupied` says at which of these places a leaf stands.
+    requires leaves { occupied.now.leaves ≡ map holds_leaf (P.slots places.now) }
+    // There are sixteen bits.
+    requires bits { length changed ≡ 16 }
+    // If `old` fits outside `changed` and `left` and `right` are the hashes of the halves, the hash of all is returned.
+    ensures value { (olds : List Slot) → old.now ≡ range_hash 4 olds → Agree olds changed (P.slots places.now) → left.now ≡ range_hash 3 (take 8 (P.slots places.now)) → right.now ≡ range_hash 3 (drop 8 (P.slots places.now)) → result ≡ range_hash 4 (P.slots places.now) }
+    // A step is counted if a place changed and more than one leaf is there.
+    ensures pairs { steps.new ≡ steps.old + cond (has_change changed && is_many (occupants (P.slots places.now))) 1 0 }
+{
+    if changed.count(0, 16) == 0 {
+        return *old;
+    }
+    if !occupied.is_many(0, 16) {
+        return first_in(places, occupied, 0, 16);
+    }
+    hash_pair(left, right, steps)
 }

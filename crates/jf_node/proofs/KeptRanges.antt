@@ -66,12 +66,3 @@ kept_there x links start width level shows two is =
   where
     none_some : (hash : List ℕ) → ¬ (None ≡ Some hash)
     none_some hash e = absurd (cc)
-
--- and so has the range of all places
-pub top_there : (depth : ℕ) (links : List (Option LinkValue)) → AreChildren depth links → ¬ (None ≡ kept_hash 4 (slots_of depth (entries_of_children links)))
-top_there depth links children is =
-    let many : is_many (occupants (slots_of depth (entries_of_children links))) ≡ true = ap (λ ss. is_many (occupants ss)) (sym (places_are depth links children)) ∙ more links children.several in
-    absurd (none_some (range_hash 4 (slots_of depth (entries_of_children links))) (is ∙ ap (λ b. cond b (Some (range_hash 4 (slots_of depth (entries_of_children links)))) None) many))
-  where
-    none_some : (hash : List ℕ) → ¬ (None ≡ Some hash)
-    none_some hash e = absurd (cc)

@@ -1,5 +1,5 @@
 // Links are made from an entry, from children, or from an older link.
-ghost use Rattle.std.specs.Prelude.{◌≡◌, ℕ, ◌*◌, ◌<◌, ◌≤◌, ◌+◌, false, List, Option, length, IfOk};
+ghost use Rattle.std.specs.Prelude.{◌≡◌, ◌*◌, ◌<◌, ◌≤◌, ◌+◌, false, length, IfOk};
 ghost use Rattle.std.specs.List.{count_by};
 ghost use Rattle.std.specs.Option.{option_copied};
 ghost use Rattle.jf_path.specs.Limits.{max_value};
@@ -9,11 +9,10 @@ ghost use Rattle.jf_hash.specs.Roots.{part_root};
 ghost use Rattle.jf_hash.specs.Slots.{slots_of};
 ghost use Rattle.jf_node.specs.Children.{content, entries_of_children, FitFrom, AreChildren, SameElsewhere, leaf_value, inner_value, moved_value, renewed_value};
 ghost use Rattle.jf_node.specs.LinkFacts.{BeginAlike};
-ghost use Rattle.jf_node.specs.LinkValue.{LinkValue};
 
 use crate::link::{Body, Branches, Form, Link, Sixteen};
 use crate::view::Seen;
-use jf_hash::{Hash, Ranges, empty};
+use jf_hash::{Hash, Ranges};
 use jf_path::{Bitmap, Key, Memory, Nibble, SharedBytes, know_bytes, know_key};
 use jf_steps::Steps;
 use std::alloc::Global;
@@ -67,12 +66,12 @@ impl Link {
             alloc,
             Body {
                 version,
-                depth,
                 hash,
                 form: Form::Leaf {
+                    depth: depth as u8,
                     key: *key,
-                    value,
                     value_hash: *value_hash,
+                    value,
                 },
             },
         )?;
@@ -121,8 +120,8 @@ impl Link {
         children.know();
         let count = children.count().ok_or(Memory)?;
         let children = Branches::of(alloc, children)?;
-        let ranges = Ranges::of_counted(alloc, &children, steps)?;
-        Link::over(alloc, version, depth, children, ranges, count)
+        let (ranges, hash) = Ranges::of_counted(alloc, &children, steps)?;
+        Link::over(alloc, version, depth, children, ranges, hash, count)
     }
 
     // The inner node, with the pairs counted in a ledger of their own.
@@ -201,10 +200,10 @@ impl Link {
         changed.know();
         let count = self.recount(&children, changed)?;
         let children = Branches::of(alloc, children)?;
-        let ranges = self
+        let (ranges, hash) = self
             .ranges()
-            .updated_counted(alloc, &children, changed, steps)?;
-        Link::over(alloc, version, self.depth(), children, ranges, count)
+            .updated_counted(alloc, &self.hash(), &children, changed, steps)?;
+        Link::over(alloc, version, self.depth(), children, ranges, hash, count)
     }
 
     // The node over new children, with the pairs counted in a ledger of their own.
@@ -253,30 +252,31 @@ impl Link {
         }
     }
 
-    // An inner node over its children. The hashes of all ranges of them are given, and the number of their entries.
+    // An inner node over its children. Given are the hashes of their ranges, its own hash, and the number of their entries.
     fn over(
         alloc: Global,
         version: u64,
         depth: u64,
         children: Branches,
         ranges: Ranges,
+        hash: Hash,
         count: u64,
     ) -> Result<Link, Memory>
         requires children { AreChildren depth children }
         requires alike { BeginAlike depth (entries_of_children children) }
         requires hashed { ranges ≡ kept_hashes (slots_of depth (entries_of_children children)) }
+        requires topped { hash ≡ part_root (4 * depth) (entries_of_children children) }
         requires counted { count ≡ length (entries_of_children children) }
         ensures { IfOk result (λ x. x ≡ inner_value version depth children) }
     {
         children.know();
-        let hash = top_of(&ranges);
         let node = Arc::new(
             alloc,
             Body {
                 version,
-                depth,
                 hash,
                 form: Form::Inner {
+                    depth: depth as u8,
                     children,
                     ranges,
                     count,
@@ -318,7 +318,15 @@ impl Link {
             Seen::Inner { children } => {
                 let children = Branches::of(alloc, children.share()?)?;
                 let ranges = self.ranges().copy(alloc)?;
-                Link::over(alloc, version, self.depth(), children, ranges, self.count())
+                Link::over(
+                    alloc,
+                    version,
+                    self.depth(),
+                    children,
+                    ranges,
+                    self.hash(),
+                    self.count(),
+                )
             }
         }
     }
@@ -350,14 +358,4 @@ fn count_after_change(
     }
     let rest = total - count_of(old);
     rest.checked_add(count_of(new)).ok_or(Memory)
-}
-
-// The hash of an inner node, which it keeps among those of its ranges.
-fn top_of(ranges: &Ranges) -> Hash
-    ensures { (depth : ℕ) (links : List (Option LinkValue)) → AreChildren depth links → ranges.now ≡ kept_hashes (slots_of depth (entries_of_children links)) → result ≡ part_root (4 * depth) (entries_of_children links) }
-{
-    match ranges.top() {
-        Some(hash) => *hash,
-        None => empty(),
-    }
 }

@@ -1,12 +1,15 @@
-// Bytes that several owners share.
+// Bytes of several owners.
 ghost use Rattle.std.specs.Prelude.{◌≡◌, length, IfOk};
-ghost use Rattle.jf_path.specs.Storages.{IsStorage, stored_bytes};
+ghost use Rattle.jf_path.specs.Storages.{IsHolding, IsStorage, held_bytes, stored_bytes};
 
 use crate::bytes::Bytes;
 use crate::memory::Memory;
 use std::alloc::Global;
 use std::marker::Model;
 use std::sync::Arc;
+
+/// The most bytes that each owner has for itself.
+const OWN: usize = 14;
 
 /// The most bytes that lie in one block of memory with the number of their owners.
 const SHORT: usize = 38;
@@ -18,10 +21,18 @@ pub(crate) enum Storage {
     Long { bytes: Bytes },
 }
 
-/// Bytes that don't change and that several owners share. They are freed with their last owner.
+/// What an owner has: up to 14 bytes for itself, or a share of more.
+#[derive(Debug, Drop)]
+pub(crate) enum Holding {
+    Own { len: u8, bytes: [u8; OWN] },
+    Shared { storage: Arc<Storage, Global> },
+}
+
+/// Bytes that don't change, of several owners. Each has up to 14 bytes for itself; more are shared, and freed with their
+/// last owner.
 #[derive(Debug, Drop)]
 pub struct SharedBytes {
-    storage: Arc<Storage, Global>,
+    holding: Holding,
 }
 
 impl Model for SharedBytes {
@@ -29,11 +40,11 @@ impl Model for SharedBytes {
 
     ghost Value = { List ℕ };
 
-    ghost use Rattle.jf_path.specs.Storages.{IsStorage, stored_bytes};
+    ghost use Rattle.jf_path.specs.Storages.{IsHolding, held_bytes};
 
-    ghost view = { λ b. stored_bytes b.storage.value };
+    ghost view = { λ b. held_bytes b.holding };
 
-    ghost invariant = { λ b. IsStorage b.storage.value };
+    ghost invariant = { λ b. IsHolding b.holding };
 }
 
 impl SharedBytes {
@@ -45,8 +56,9 @@ impl SharedBytes {
         if bytes.len() <= SHORT as u64 {
             return SharedBytes::copy_of(alloc, bytes.as_slice());
         }
+        let storage = Arc::new(alloc, Storage::Long { bytes })?;
         Ok(SharedBytes {
-            storage: Arc::new(alloc, Storage::Long { bytes })?,
+            holding: Holding::Shared { storage },
         })
     }
 
@@ -56,18 +68,25 @@ impl SharedBytes {
         ensures { IfOk result (λ b. b ≡ from.now) }
     {
         Ok(SharedBytes {
-            storage: Arc::new(alloc, storage_of(alloc, from)?)?,
+            holding: holding_of(alloc, from)?,
         })
     }
 
-    /// One more owner of the same bytes. Nothing is copied.
+    /// One more owner of the same bytes. Up to 14 are copied, and more are shared.
     pub fn share(&self) -> Result<SharedBytes, Memory>
         // After Ok, the result has the same bytes.
         ensures { IfOk result (λ b. b ≡ self.now) }
     {
-        Ok(SharedBytes {
-            storage: Arc::try_clone(&self.storage)?,
-        })
+        let holding = match &self.holding {
+            Holding::Own { len, bytes } => Holding::Own {
+                len: *len,
+                bytes: *bytes,
+            },
+            Holding::Shared { storage } => Holding::Shared {
+                storage: Arc::try_clone(storage)?,
+            },
+        };
+        Ok(SharedBytes { holding })
     }
 
     /// The number of bytes.
@@ -83,11 +102,39 @@ impl SharedBytes {
         // The slice holds the bytes.
         ensures { result.now ≡ self.now }
     {
-        match &*self.storage {
-            Storage::Short { bytes, len } => &bytes[..*len as usize],
-            Storage::Long { bytes } => bytes.as_slice(),
+        match &self.holding {
+            Holding::Own { len, bytes } => &bytes[..*len as usize],
+            Holding::Shared { storage } => stored_slice(storage),
         }
     }
+}
+
+// The bytes that are stored.
+fn stored_slice(storage: &Storage) -> &[u8]
+    requires { IsStorage storage.now }
+    ensures { result.now ≡ stored_bytes storage.now }
+{
+    match storage {
+        Storage::Short { bytes, len } => &bytes[..*len as usize],
+        Storage::Long { bytes } => bytes.as_slice(),
+    }
+}
+
+// A copy of these bytes, which the owner has for itself if they are at most 14.
+fn holding_of(alloc: Global, from: &[u8]) -> Result<Holding, Memory>
+    ensures holding { IfOk result IsHolding }
+    ensures bytes { IfOk result (λ h. held_bytes h ≡ from.now) }
+{
+    if from.len() > OWN {
+        let storage = Arc::new(alloc, storage_of(alloc, from)?)?;
+        return Ok(Holding::Shared { storage });
+    }
+    let mut bytes = [0; OWN];
+    bytes[..from.len()].copy_from_slice(from);
+    Ok(Holding::Own {
+        len: from.len() as u8,
+        bytes,
+    })
 }
 
 // A copy of these bytes, which lies at the place itself if they are at most 38.

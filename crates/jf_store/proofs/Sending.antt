@@ -43,12 +43,19 @@ use Rattle.jf_store.specs.contracts.pass.Pass.TheInside as pass_inside
 use Rattle.jf_store.specs.contracts.store.Store as Store
 use Rattle.jf_store.specs.contracts.store.Store.TheInside as store_inside
 
+-- Bytes that are shared lie too deep for a search from the types above.
+SharedBytes-send : IsSend SharedBytes.the_row
+SharedBytes-send = search (sendable, crosses) depth 20
+
+SharedBytes-sync : IsSync SharedBytes.the_row
+SharedBytes-sync = search (sendable, crosses) depth 20
+
 -- The types that hold themselves, each by the rule that is made for its cycle: no search finds that rule unless it is listed.
 Link-send : IsSend Link.the_row
-Link-send = search (sendable, crosses, links.both_send-Link) depth 20
+Link-send = search (sendable, crosses, links.both_send-Link, SharedBytes-send, SharedBytes-sync) depth 20
 
 Link-sync : IsSync Link.the_row
-Link-sync = search (sendable, crosses, links.both_sync-Link) depth 20
+Link-sync = search (sendable, crosses, links.both_sync-Link, SharedBytes-send, SharedBytes-sync) depth 20
 
 SharedRange-send : IsSend SharedRange.the_row
 SharedRange-send = search (sendable, Link-send) depth 20
@@ -64,9 +71,6 @@ Snapshot-send = search (sendable, Link-send) depth 20
 
 SpecTree-send : IsSend SpecTree.the_row
 SpecTree-send = search (sendable, Node-send) depth 20
-
-SharedBytes-send : IsSend SharedBytes.the_row
-SharedBytes-send = search (sendable, crosses) depth 20
 
 ForkTable-send : IsSend ForkTable.the_row
 ForkTable-send = search (sendable, crosses, SpecTree-send, SharedBytes-send) depth 40

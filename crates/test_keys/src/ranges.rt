@@ -217,7 +217,7 @@ fn changed_at_5() -> Bitmap {
     changed
 }
 
-// The ranges of two places or more.
+// The ranges of two to eight places.
 const WIDE: &[(usize, usize)] = &[
     (0, 2),
     (2, 2),
@@ -233,12 +233,12 @@ const WIDE: &[(usize, usize)] = &[
     (12, 4),
     (0, 8),
     (8, 8),
-    (0, 16),
 ];
 
 // Whether the same is kept of a range.
 fn has_same(one: &Ranges, other: &Ranges, start: usize, width: usize) -> bool {
     width >= 2
+        && width <= 8
         && is_range(start, width)
         && one.hash(start, width).copied() == other.hash(start, width).copied()
 }
@@ -252,10 +252,10 @@ fn are_same(one: &Ranges, other: &Ranges) -> bool {
     true
 }
 
-// Whether the hashes are those of the changed places.
-fn is_hashed_anew(alloc: Global, after: &Ranges) -> Result<bool, Memory> {
-    let anew = Ranges::of(alloc, &changed_slots())?;
-    Ok(are_same(after, &anew))
+// Whether the hashes and that of all places are those of the changed places.
+fn is_hashed_anew(alloc: Global, after: &Ranges, top: &Hash) -> Result<bool, Memory> {
+    let (anew, anew_top) = Ranges::of(alloc, &changed_slots())?;
+    Ok(are_same(after, &anew) && *top == anew_top)
 }
 
 fn is_copied(alloc: Global, ranges: &Ranges) -> Result<bool, Memory> {
@@ -267,21 +267,26 @@ fn has_changed_hashes(before: &Ranges, after: &Ranges) -> bool {
     after.hash(4, 2).is_none()
         && after.hash(0, 8).copied() == Some(LOW_HALF)
         && after.hash(8, 8).copied() == before.hash(8, 8).copied()
-        && after.top().copied() == Some(TOP)
 }
 
 #[test]
 fn a_change_leaves_the_hashes_of_the_changed_places(rt: HostRuntime) -> Result<(), Fail> {
-    let before = Ranges::of(rt.alloc(), &APART)?;
-    let after = before.updated_ranges(rt.alloc(), &changed_slots(), changed_at_5())?;
-    assert!(rt; is_hashed_anew(rt.alloc(), &after)?);
+    let (before, old_top) = Ranges::of(rt.alloc(), &APART)?;
+    let (after, top) = before.updated_ranges(
+        rt.alloc(),
+        &old_top,
+        &changed_slots(),
+        changed_at_5(),
+    )?;
+    assert!(rt; is_hashed_anew(rt.alloc(), &after, &top)?);
     assert!(rt; has_changed_hashes(&before, &after));
+    assert_eq!(rt; top, TOP);
     Ok(())
 }
 
 #[test]
 fn a_copy_has_the_same_hashes(rt: HostRuntime) -> Result<(), Fail> {
-    let ranges = Ranges::of(rt.alloc(), &APART)?;
+    let (ranges, _) = Ranges::of(rt.alloc(), &APART)?;
     assert!(rt; is_copied(rt.alloc(), &ranges)?);
     Ok(())
 }

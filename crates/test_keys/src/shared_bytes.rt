@@ -1,10 +1,11 @@
-// Bytes that are shared are the same wherever they lie: 38 and fewer beside the number of their owners, or more elsewhere.
+// Bytes that are shared are the same wherever they lie: up to 14 with each owner, up to 38 beside the number of the owners, or
+// more elsewhere.
 use jf_path::{Bytes, Memory, SharedBytes};
 use std::alloc::Global;
 use std::test::Fail;
 
 // How many bytes are shared.
-const LENGTHS: &[usize] = &[0, 1, 37, 38, 39, 200];
+const LENGTHS: &[usize] = &[0, 1, 13, 14, 15, 37, 38, 39, 200];
 
 // As many bytes as are said, no two neighbours the same.
 fn bytes_of(alloc: Global, length: usize) -> Result<Bytes, Memory> {
