@@ -54,7 +54,7 @@ pub(crate) fn store_found<H: Threads + Sync>(
     new_is_sound();
     match Pair::open(alloc, disk) {
         Ok((_, live)) => match live {
-            Some(log) => live_store(rt, alloc, &log, workers),
+            Some(log) => live_store(rt, alloc, log, workers),
             None => new_store(alloc),
         },
         Err(fault) => outer_damage(fault),
@@ -75,12 +75,12 @@ fn outer_damage(fault: PairFault) -> Result<StoreCheck, Memory>
 fn live_store<H: Threads + Sync>(
     rt: &H,
     alloc: Global,
-    log: &Log,
+    log: Log,
     workers: Workers,
 ) -> Result<StoreCheck, Memory>
-    requires begun { is_begun log.now.records ≡ true }
-    requires positive { 0 < length log.now.records }
-    ensures { IfOk result (IsLiveCheck log.now.side log.now.records) }
+    requires begun { is_begun log.records ≡ true }
+    requires positive { 0 < length log.records }
+    ensures { IfOk result (IsLiveCheck log.side log.records) }
 {
     let side = log.side();
     match replay(rt, alloc, log, workers) {

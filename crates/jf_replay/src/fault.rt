@@ -3,6 +3,7 @@ ghost use Rattle.std.specs.Prelude.{◌≡◌};
 ghost use Rattle.jf_replay.specs.Faults.{fault_of_decoding, fault_of_check};
 
 use crate::check_fault::CheckFault;
+use jf_path::Memory;
 use jf_payload::RecordFault;
 
 /// Why records lead to no directory.
@@ -12,6 +13,16 @@ pub enum ReplayFault {
     Unsound { offset: u64 },
     /// Out of memory.
     Memory,
+}
+
+impl From<Memory> for ReplayFault {
+    ghost use Rattle.jf_replay.specs.declared.fault.ReplayFault.TheVariants as fault;
+
+    ghost from_gives = { λ _ e. e ≡ fault.Memory };
+
+    fn from(_: Memory) -> Self {
+        ReplayFault::Memory
+    }
 }
 
 /// The fault of a record at an offset whose payload was not decoded.

@@ -33,3 +33,6 @@ loop-node-preserved-in_ok-insert-2 c = step (goal.at.loop-node-preserved-in_ok-i
 
 pub loop-node-preserved-in_ok-insert-3 : goal.loop-node-preserved-in_ok-insert-3
 loop-node-preserved-in_ok-insert-3 c = step (goal.at.loop-node-preserved-in_ok-insert-3 c).In_ok-insert
+
+pub loop-node-preserved-in_ok-insert-4 : goal.loop-node-preserved-in_ok-insert-4
+loop-node-preserved-in_ok-insert-4 c = step (goal.at.loop-node-preserved-in_ok-insert-4 c).In_ok-insert

@@ -26,3 +26,6 @@ loop-name-preserved-in_ok-insert-2 c = step (goal.at.loop-name-preserved-in_ok-i
 
 pub loop-name-preserved-in_ok-insert-3 : goal.loop-name-preserved-in_ok-insert-3
 loop-name-preserved-in_ok-insert-3 c = step (goal.at.loop-name-preserved-in_ok-insert-3 c).In_ok-insert
+
+pub loop-name-preserved-in_ok-insert-4 : goal.loop-name-preserved-in_ok-insert-4
+loop-name-preserved-in_ok-insert-4 c = step (goal.at.loop-name-preserved-in_ok-insert-4 c).In_ok-insert

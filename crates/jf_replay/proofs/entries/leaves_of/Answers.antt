@@ -16,3 +16,6 @@ loop-i-preserved-in_ok-insert c = step (goal.at.loop-i-preserved-in_ok-insert c)
 
 pub loop-i-preserved-in_ok-insert-2 : goal.loop-i-preserved-in_ok-insert-2
 loop-i-preserved-in_ok-insert-2 c = step (goal.at.loop-i-preserved-in_ok-insert-2 c).In_ok-insert
+
+pub loop-i-preserved-in_ok-insert-3 : goal.loop-i-preserved-in_ok-insert-3
+loop-i-preserved-in_ok-insert-3 c = step (goal.at.loop-i-preserved-in_ok-insert-3 c).In_ok-insert
