@@ -1,6 +1,6 @@
 -- What is read of two files: a store that their records lead to, or a pair without a record.
-use Rattle.std.specs.Prelude.{Ok, IfOk}
-use Rattle.std.proofs.Common.{◌≡◌, ◌∙◌, refl, sym, subst, ℕ, ◌≤◌, List, [], ◌∷◌, Option, Some, None, true, false, arith}
+use Rattle.std.specs.Prelude.{Ok}
+use Rattle.std.proofs.Common.{◌≡◌, subst, ℕ, ◌≤◌, List, [], ◌∷◌, Option, Some, None, true, false, arith}
 use Rattle.jf_disk.specs.Disk.{History, Files, reads}
 use Rattle.jf_disk.specs.Crashes.{LeavesFiles}
 use Rattle.jf_disk.specs.declared.side.Side.TheVariants as side

@@ -1,5 +1,5 @@
 -- What the two files of a disk were found to hold, before anything is written to them.
-use Rattle.std.specs.Prelude.{ℕ, ◌≡◌, ◌≤◌, ◌-◌, ◌^◌, [], true, false}
+use Rattle.std.specs.Prelude.{◌≡◌, ◌≤◌, ◌-◌, ◌^◌, [], false}
 use Rattle.jf_disk.specs.Crashes.{LeavesFiles}
 use Rattle.jf_disk.specs.declared.side.Side.TheVariants as side
 use Rattle.jf_pair.specs.Pairs.{Pair, IsInStep}

@@ -1,5 +1,4 @@
 -- The batches of the list are those of its slice, and no root is announced.
-use Rattle.std.proofs.Common.{◌≡◌}
 use Rattle.jf_engine.proofs.Rooted.{refused_step, never_differs}
 use Rattle.jf_engine.proofs.engine.Engine.land_all.Goals as goal
 

@@ -1,8 +1,6 @@
 -- The batch is a list of one.
-use Rattle.std.proofs.Common.{◌≡◌, ◌≤◌, sym, subst, ap, ◌∙◌, arith}
-use Rattle.jf_hash.specs.Roots.{root}
+use Rattle.std.proofs.Common.{◌≤◌, sym, subst, arith}
 use Rattle.jf_model.specs.Batches.{key_count}
-use Rattle.jf_model.specs.Versions.{Versions, newest}
 use Rattle.jf_split.specs.Limits.{max_keys}
 use Rattle.jf_engine.proofs.engine.Engine.land_rooted.Goals as goal
 
