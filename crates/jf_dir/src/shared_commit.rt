@@ -1,7 +1,17 @@
-// What a landing writes, before it is written.
+// What a landing writes, before it is written, and its bytes. Its nodes are written as they are shared with snapshots, and no
+// list of them by themselves is made.
+ghost use Rattle.std.specs.Prelude.{◌≡◌, ◌++◌, ◌↔◌, length, IsTrue, IfOk, OnOk};
+ghost use Rattle.std.specs.List.{AllByRecursion};
+ghost use Rattle.jf_codec.specs.Spelling.{IsNode};
+ghost use Rattle.jf_codec.specs.Counted.{in_format};
+ghost use Rattle.jf_payload.specs.Spelling.{commit_bytes};
+
+use jf_codec::{Format, put_u64};
 use jf_diff::NamedNodes;
 use jf_hash::Hash;
-use jf_path::NameList;
+use jf_path::{Bytes, Memory, NameList, know_key};
+use jf_payload::{names_len, put_names, sum_within};
+use std::alloc::Global;
 use std::marker::Model;
 
 /// What a landing writes: a commit whose nodes are those of a snapshot, which are shared and not copied.
@@ -19,4 +29,48 @@ impl Model for SharedCommit {
     ghost Value = { Commit };
 
     ghost view = { λ l. record { version = l.version; root = l.root; fresh = l.fresh; stale = l.stale } };
+}
+
+impl SharedCommit {
+    /// The number of its bytes in a file of this format: version, root, and two lists after their counts.
+    #[tactic(auto, unfolding(jf_payload::specs::Spelling::commit_bytes, jf_path::specs::Numbers::eight_bytes))]
+    pub fn bytes_len(&self, format: Format) -> Result<u64, Memory>
+        // What the format keeps of each node that the landing writes has a spelling.
+        requires { AllByRecursion (λ x. IsNode format (in_format format x.1)) self.now.fresh }
+        // After Ok, the result is the number of the bytes of the landing.
+        ensures { IfOk result (λ n. n ≡ length (commit_bytes format self.now)) }
+    {
+        know_key(&self.root);
+        let fresh = self.fresh.bytes_len(format)?;
+        let stale = names_len(self.stale.as_slice())?;
+        sum_within(sum_within(56, fresh)?, stale)
+    }
+
+    /// Adds its bytes in a file of this format. If memory runs out, some of them may follow what was in `out`.
+    #[tactic(auto, unfolding(jf_payload::specs::Spelling::commit_bytes))]
+    pub fn put(&self, alloc: Global, out: &mut Bytes, format: Format) -> Result<(), Memory>
+        // What the format keeps of each node that the landing writes has a spelling.
+        requires { AllByRecursion (λ x. IsNode format (in_format format x.1)) self.now.fresh }
+        // After Ok, the bytes of the landing follow what was there.
+        ensures { OnOk result (out.new ≡ out.old ++ commit_bytes format self.now) }
+    {
+        put_u64(out, self.version)?;
+        out.append(&self.root)?;
+        put_u64(out, self.fresh.len())?;
+        self.fresh.put(alloc, out, format)?;
+        put_u64(out, self.stale.len())?;
+        put_names(out, self.stale.as_slice())
+    }
+
+    /// Whether bytes are its bytes in a file of this format. Its own are put together beside them.
+    pub fn is_spelled(&self, alloc: Global, bytes: &[u8], format: Format) -> Result<bool, Memory>
+        // What the format keeps of each node that the landing writes has a spelling.
+        requires { AllByRecursion (λ x. IsNode format (in_format format x.1)) self.now.fresh }
+        // After Ok, the result is whether the bytes are those of the landing.
+        ensures { IfOk result (λ b. IsTrue b ↔ (bytes.now ≡ commit_bytes format self.now)) }
+    {
+        let mut spelled = Bytes::with_capacity(alloc, bytes.len() as u64)?;
+        self.put(alloc, &mut spelled, format)?;
+        Ok(bytes == spelled.as_slice())
+    }
 }
