@@ -1,0 +1,4 @@
+pub mod Ones
+pub mod Parts
+pub mod Rounds
+pub mod Whole
