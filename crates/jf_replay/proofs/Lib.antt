@@ -4,6 +4,7 @@ pub mod Puts
 pub mod Read
 pub mod Spelled
 pub mod Verdicts
+pub mod Written
 pub mod Fronts
 pub mod Numbered
 pub mod CutNodes

@@ -1,19 +1,15 @@
 -- Changes that are put one by one, from the last node of a list to the first.
-use Rattle.std.proofs.Common.{◌≡◌, ℕ, ◌+◌, ◌-◌, ◌<◌, ◌≤◌, List, [], ◌∷◌, ◌++◌, map, length, drop, get_or, drop-cons, Some, None, refl, sym, ap, ◌∙◌, arith, add-one, reverse}
+use Rattle.std.proofs.Common.{◌≡◌, ℕ, ◌+◌, ◌-◌, ◌<◌, ◌≤◌, List, [], ◌∷◌, ◌++◌, length, drop, get_or, drop-cons, Some, None, refl, sym, ap, ◌∙◌, arith, add-one, reverse}
 use Rattle.std.proofs.lemmas.List.{get_or-reverse, length-reverse, length_push}
 use Rattle.std.specs.BTreeMap.{insert_entry}
 use Rattle.std.specs.FinMap.{put, entries}
 use Rattle.jf_path.specs.Keys.{key_cmp}
 use Rattle.jf_path.specs.declared.name.NodeName.{NodeName}
-use Rattle.jf_path.specs.declared.node.PlainNode.{PlainNode}
-use Rattle.jf_path.specs.declared.node.PlainNode.TheVariants as node
 use Rattle.jf_hash.specs.Maps.{Map, Batch}
 use Rattle.jf_hash.specs.Slots.{Part}
 use Rattle.jf_model.specs.Nodes.{under}
 use Rattle.jf_split.proofs.Gathered.{insert_entry-put}
 use Rattle.jf_standing.specs.Landing.{by_key}
-use Rattle.jf_standing.specs.Named.{leaf_entries, not_stale}
-use Rattle.jf_standing.specs.Standing.{unmarked_node}
 use Rattle.jf_standing.proofs.Batches.{puts_of, removals_of}
 use Rattle.jf_replay.specs.Changes.{put_each, leaves_at, sole, removal_of}
 
@@ -30,11 +26,6 @@ module _ {X : Type 0} where
       let next : (i - 1) + 1 ≡ i = omega arith in
       drop-cons xs (i - 1) d (omega arith) ∙ ap (λ k. get_or xs (i - 1) d ∷ drop k xs) (sym (add-one (i - 1)) ∙ next)
 
--- the leaf of one more node is put
-pub put-leaf : (x : NodeName × PlainNode) (xs : List (NodeName × PlainNode)) (key value : List ℕ) (b : Batch) → x.1 ≡ node.Leaf key value
-    → put_each (puts_of (leaf_entries (map unmarked_node (x ∷ xs)))) b ≡ put key_cmp key (Some value) (put_each (puts_of (leaf_entries (map unmarked_node xs))) b)
-put-leaf x xs key value b is = ap (λ (n : PlainNode). put_each (puts_of (leaf_entries ((x.0, n, not_stale) ∷ map unmarked_node xs))) b) is
-
 -- the leaf of one more name is removed
 pub put-removal : (m : Map) (name : NodeName) (names : List NodeName) (key : List ℕ) (b : Batch) → removals_of (sole (under 0 name.path (entries m))) ≡ removal_of (Some key)
     → put_each (removals_of (leaves_at m (name ∷ names))) b ≡ put key_cmp key None (put_each (removals_of (leaves_at m names)) b)
@@ -45,11 +36,11 @@ put-removal m name names key b is = ap (λ (es : Batch). put_each es b) (joined 
     joined (p ∷ ps) qs = ap (λ (es : Batch). (p.0, None) ∷ es) (joined ps qs)
 
 -- the leaf at a place of a list is put over those after it
-pub put-leaf-at : (nodes : List (NodeName × PlainNode)) (i : ℕ) (x : NodeName × PlainNode) (key value : List ℕ) (b old new : Batch) → 0 < i → i ≤ length nodes → (get_or nodes (i - 1) x).1 ≡ node.Leaf key value
-    → old ≡ put_each (puts_of (leaf_entries (map unmarked_node (drop i nodes)))) b → new ≡ insert_entry key_cmp old key (Some value) → new ≡ put_each (puts_of (leaf_entries (map unmarked_node (drop (i - 1) nodes)))) b
-put-leaf-at nodes i x key value b old new some low is was now =
-    now ∙ insert_entry-put key (Some value) old ∙ ap (put key_cmp key (Some value)) was ∙ sym (put-leaf (get_or nodes (i - 1) x) (drop i nodes) key value b is)
-    ∙ ap (λ xs. put_each (puts_of (leaf_entries (map unmarked_node xs))) b) (sym (drop-up nodes i x some low))
+pub put-leaf-at : (leaves : Part) (i : ℕ) (x : List ℕ × List ℕ) (b old new : Batch) → 0 < i → i ≤ length leaves → x ≡ get_or leaves (i - 1) x
+    → old ≡ put_each (puts_of (drop i leaves)) b → new ≡ insert_entry key_cmp old x.0 (Some x.1) → new ≡ put_each (puts_of (drop (i - 1) leaves)) b
+put-leaf-at leaves i x b old new some low at was now =
+    now ∙ insert_entry-put x.0 (Some x.1) old ∙ ap (put key_cmp x.0 (Some x.1)) was
+    ∙ ap (λ es. put_each (puts_of es) b) (ap (λ (y : List ℕ × List ℕ). y ∷ drop i leaves) at ∙ sym (drop-up leaves i x some low))
 
 -- the leaf of the name at a place of a list is removed, before those after it
 pub put-removal-at : (m : Map) (names : List NodeName) (i : ℕ) (x : NodeName) (key : List ℕ) (b old new : Batch) → 0 < i → i ≤ length names → x ≡ get_or names (i - 1) x → removals_of (sole (under 0 x.path (entries m))) ≡ removal_of (Some key)

@@ -1,6 +1,6 @@
 -- The leaves of a landing that has a spelling, and the changes that are read off it.
 use Rattle.std.specs.Prelude.{IfSome}
-use Rattle.std.proofs.Common.{◌≡◌, ℕ, ◌≤◌, List, [], ◌∷◌, ◌++◌, length, map, Contains, Some, None, Option, true, true≢false, sym, ap, ◌∙◌, subst}
+use Rattle.std.proofs.Common.{◌≡◌, ℕ, ◌+◌, ◌<◌, ◌≤◌, List, [], ◌∷◌, ◌++◌, length, map, take, get_or, Contains, Some, None, Option, true, true≢false, refl, sym, ap, ◌∙◌, subst}
 use Rattle.std.specs.FinMap.{entries}
 use Rattle.std.specs.List.{AllByRecursion}
 use Rattle.std.specs.Option.{is_some}
@@ -12,6 +12,7 @@ use Rattle.jf_path.specs.declared.node.PlainNode.{PlainNode}
 use Rattle.jf_path.specs.declared.node.PlainNode.TheVariants as node
 use Rattle.jf_path.proofs.ListLaws.{All-append, All-of, Contains-first}
 use Rattle.jf_hash.specs.Maps.{Map, Batch, IsMap, IsBatch}
+use Rattle.jf_hash.specs.Slots.{Part}
 use Rattle.jf_model.specs.Nodes.{is_node}
 use Rattle.jf_codec.specs.Spelling.{IsNode}
 use Rattle.jf_codec.specs.declared.format.Format.{Format}
@@ -28,7 +29,10 @@ use Rattle.jf_node.specs.Snapshots.{IsSnapshot, snapshot_version_at}
 use Rattle.jf_update.specs.Outcomes.{AreShort}
 use Rattle.jf_diff.specs.Landings.{version_or}
 use Rattle.jf_dir.specs.Directories.{IsSnapshotAt}
-use Rattle.jf_replay.specs.Changes.{changes_of, leaves_at, IsNameIn}
+use Rattle.jf_landing.specs.Scanned.{leaf_alone}
+use Rattle.jf_landing.proofs.Rounds.{one_more_read, alone_at}
+use Rattle.jf_landing.proofs.Whole.{entries-fresh}
+use Rattle.jf_replay.specs.Changes.{changes_by, leaves_at, IsNameIn}
 use Rattle.jf_replay.specs.Next.{IsNameAtHead}
 use Rattle.jf_replay.proofs.Read.{leaves_at-which}
 
@@ -45,6 +49,19 @@ short_leaves fmt (x ∷ xs) h = at x.1 h.0.1 (short_leaves fmt xs h.1)
     at (node.Leaf key value) is rest = (is, rest)
     at (node.Inner cs) is rest = rest
 
+-- ---- leaves that were read off nodes
+-- a node that is no leaf has no entry
+pub no-leaf : (n : PlainNode) → ((key value : List ℕ) → n ≡ node.Leaf key value → ⊥) → leaf_alone n ≡ []
+no-leaf node.Null none = refl
+no-leaf (node.Leaf key value) none = absurd (none key value refl)
+no-leaf (node.Inner cs) none = refl
+
+-- the leaves among one more node
+pub leaf-more : (nodes : List (NodeName × PlainNode)) (i : ℕ) (x : NodeName × PlainNode) (so_far more : Part) → i < length nodes → x ≡ get_or nodes i x → so_far ≡ leaf_entries (map unmarked_node (take i nodes)) → more ≡ so_far ++ leaf_alone x.1
+    → more ≡ leaf_entries (map unmarked_node (take (i + 1) nodes))
+leaf-more nodes i x so_far more lt at is e =
+    one_more_read alone_at nodes x i so_far (is ∙ sym (entries-fresh (take i nodes))) lt more (e ∙ ap (λ (y : NodeName × PlainNode). so_far ++ leaf_alone y.1) at) ∙ entries-fresh (take (i + 1) nodes)
+
 -- ---- a landing with a spelling
 pub spelled-entries : (fmt : Format) (c : Commit) → IsCommit fmt c → AreEntries (fresh_leaves c)
 spelled-entries fmt c is = All-each_element _ (fresh_leaves c) (λ e has. let at = All-of IsShortEntry (fresh_leaves c) e (short_leaves fmt c.fresh is.fresh) has in (at.0, at.1))
@@ -56,16 +73,16 @@ pub spelled-IsInOrder : (fmt : Format) (c : Commit) → IsCommit fmt c → IsInO
 spelled-IsInOrder fmt c is = record { fresh = is.fresh_rise; stale = is.stale_rise }
 
 -- ---- its changes
-pub changes_of-IsBatch : (m : Map) (c : Commit) → IsMap m → AreEntries (fresh_leaves c) → IsBatch (changes_of m c)
-changes_of-IsBatch m c sound own = by_key-IsBatch (fresh_leaves c) (leaves_at m c.stale) own (All-each_element _ (leaves_at m c.stale) (λ e has.
-    let name = leaves_at-which m c.stale e has in
+pub changes_by-IsBatch : (m : Map) (leaves : Part) (stale : List NodeName) → IsMap m → AreEntries leaves → IsBatch (changes_by m leaves stale)
+changes_by-IsBatch m leaves stale sound own = by_key-IsBatch leaves (leaves_at m stale) own (All-each_element _ (leaves_at m stale) (λ e has.
+    let name = leaves_at-which m stale e has in
     All-of (λ f. IsKey f.0 × IsBytes f.1) (entries m) e sound (under-Contains 0 name.0.path (entries m) e (subst (λ (es : List (List ℕ × List ℕ)). Contains es e) (sym name.2) (Contains-first e [])))))
 
-pub changes_of-AreShort : (m : Map) (c : Commit) → AllByRecursion (λ e. length e.1 ≤ max_value) (fresh_leaves c) → AreShort (changes_of m c)
-changes_of-AreShort m c short = All-each_element _ (changes_of m c) (λ e has. All-of IsShortChange words e (All-append IsShortChange (puts_of (fresh_leaves c)) (removals_of (leaves_at m c.stale)) (puts (fresh_leaves c) short) (removals (leaves_at m c.stale))) (by_key-Contains words e has))
+pub changes_by-AreShort : (m : Map) (leaves : Part) (stale : List NodeName) → AllByRecursion (λ e. length e.1 ≤ max_value) leaves → AreShort (changes_by m leaves stale)
+changes_by-AreShort m leaves stale short = All-each_element _ (changes_by m leaves stale) (λ e has. All-of IsShortChange words e (All-append IsShortChange (puts_of leaves) (removals_of (leaves_at m stale)) (puts leaves short) (removals (leaves_at m stale))) (by_key-Contains words e has))
   where
     words : Batch
-    words = puts_of (fresh_leaves c) ++ removals_of (leaves_at m c.stale)
+    words = puts_of leaves ++ removals_of (leaves_at m stale)
 
     IsShortChange : List ℕ × Option (List ℕ) → Type 0
     IsShortChange e = IfSome e.1 (λ v. length v ≤ max_value)

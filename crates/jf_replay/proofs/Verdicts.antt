@@ -28,7 +28,7 @@ use Rattle.jf_replay.specs.Next.{read_map, MayBeNext, IsAsLanded, IsNameAtHead}
 use Rattle.jf_replay.proofs.Read.{apply-changes_of, stale-at_head}
 
 -- an update that a landing makes writes what the landing writes
-landing_written-is : (s : Standing) (m : Map) (u : Update) → IsLandingUpdate s m u → landing_written u ≡ landing_of format.Two s m
+pub landing_written-is : (s : Standing) (m : Map) (u : Update) → IsLandingUpdate s m u → landing_written u ≡ landing_of format.Two s m
 landing_written-is s m u is = λ i. record { version = is.version i; root = is.root i; fresh = is.fresh i; stale = is.stale i }
 
 module _ (fmt : Format) (s : Standing) (sound : IsSound format.Two s) (keys : AreEntries (leaf_entries s.nodes)) where
@@ -64,11 +64,10 @@ module _ (fmt : Format) (s : Standing) (sound : IsSound format.Two s) (keys : Ar
     same_read = ap (λ h. apply h (changes_of h c)) (sym kept_map) ∙ apply-changes_of fmt (standing_in fmt s) c kept_sound goes after
 
     -- a sound landing may be the next
-    pub sound-MayBeNext : MayBeNext s c
+    pub sound-MayBeNext : MayBeNext s (fresh_leaves c) c.stale
     sound-MayBeNext =
         let is = (decided fmt (standing_in fmt s) c kept_sound kept_keys own order).0 (goes, after) in
         record {
-          next = goes.next;
           last = is.0;
           named = All-each_element (IsNameAtHead s) c.stale (λ name has.
               let at = stale-at_head fmt (standing_in fmt s) c kept_sound goes after name has in

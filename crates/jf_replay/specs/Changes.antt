@@ -38,9 +38,13 @@ abbrev pub leaves_at : Map → List NodeName → Part
 leaves_at m [] = []
 leaves_at m (name ∷ names) = sole (under 0 name.path (entries m)) ++ leaves_at m names
 
--- the changes that are read off a landing on a map: fresh leaves are put; keys of stale leaves are removed unless a fresh leaf has them
+-- the changes that are read off the leaves of a landing and the names that it marks stale, on a map: leaves are put; keys of stale leaves are removed unless a leaf has them
+abbrev pub changes_by : Map → Part → List NodeName → Batch
+changes_by m leaves stale = by_key (map (λ e. (e.0, Some e.1)) leaves ++ map (λ e. (e.0, None)) (leaves_at m stale))
+
+-- the changes that are read off a landing on a map
 abbrev pub changes_of : Map → Commit → Batch
-changes_of m c = by_key (map (λ e. (e.0, Some e.1)) (fresh_leaves c) ++ map (λ e. (e.0, None)) (leaves_at m c.stale))
+changes_of m c = changes_by m (fresh_leaves c) c.stale
 
 -- the removal of an optional key
 abbrev pub removal_of : Option (List ℕ) → Batch

@@ -3,13 +3,12 @@ ghost use Rattle.std.specs.Prelude.{◌≡◌, [], map, Some, None, IfOk, OnOk, 
 ghost use Rattle.std.specs.List.{AllByRecursion};
 ghost use Rattle.jf_standing.specs.Named.{leaf_entries};
 ghost use Rattle.jf_standing.specs.Standing.{unmarked_node};
-ghost use Rattle.jf_replay.specs.Changes.{IsNameIn, leaves_at, changes_of, put_each};
+ghost use Rattle.jf_replay.specs.Changes.{IsNameIn, leaves_at, changes_by, put_each};
 
 use crate::check_fault::CheckFault;
 use crate::named::key_at;
 use jf_node::Snapshot;
 use jf_path::{Key, Memory, NodeName, PlainNode, SharedBytes};
-use jf_payload::Commit;
 use std::alloc::Global;
 use std::collections::BTreeMap;
 
@@ -32,19 +31,33 @@ fn removals(
     Ok(changes)
 }
 
-/// Puts each leaf of a list of nodes; of two leaves of one key the first.
-fn put_leaves(
+/// The entries of the leaves in a list of nodes.
+pub(crate) fn leaves_in(
     alloc: Global,
-    changes: &mut BTreeMap<Key, Option<SharedBytes>>,
     nodes: &[(NodeName, PlainNode)],
-) -> Result<(), Memory>
-    ensures { OnOk result (changes.new.entries ≡ put_each (map (λ e. (e.0, Some e.1)) (leaf_entries (map unmarked_node nodes.now))) changes.old.entries) }
+) -> Result<Vec<(Key, SharedBytes)>, Memory>
+    ensures { IfOk result (λ v. v.items ≡ leaf_entries (map unmarked_node nodes.now)) }
 {
-    for node in nodes.iter().rev() {
+    let mut leaves = Vec::new(alloc);
+    for node in nodes {
         if let PlainNode::Leaf { key, value } = &node.1 {
             let value = SharedBytes::copy_of(alloc, value.as_slice())?;
-            changes.insert(*key, Some(value))?;
+            leaves.push((*key, value))?;
         }
+    }
+    Ok(leaves)
+}
+
+/// Puts each of some leaves; of two of one key the first.
+fn put_leaves(
+    changes: &mut BTreeMap<Key, Option<SharedBytes>>,
+    leaves: &[(Key, SharedBytes)],
+) -> Result<(), Memory>
+    ensures { OnOk result (changes.new.entries ≡ put_each (map (λ e. (e.0, Some e.1)) leaves.now) changes.old.entries) }
+{
+    for leaf in leaves.iter().rev() {
+        let value = leaf.1.share()?;
+        changes.insert(leaf.0, Some(value))?;
     }
     Ok(())
 }
@@ -63,18 +76,20 @@ fn list_of(
     Ok(list)
 }
 
-/// The changes that are read off a landing on the map of a snapshot: fresh leaves are put, and the keys of stale leaves
-/// are removed unless a fresh leaf has them. `Unsound` if the snapshot has no node of one of the stale names.
+/// The changes that are read off the leaves of a landing and the names that it marks stale, on the map of a snapshot:
+/// leaves are put, and the keys of stale leaves are removed unless a leaf has them. `Unsound` if the snapshot has no node of
+/// one of the names.
 pub(crate) fn changes_in(
     alloc: Global,
     snapshot: &Snapshot,
-    commit: &Commit,
+    leaves: &[(Key, SharedBytes)],
+    stale: &[NodeName],
 ) -> Result<Vec<(Key, Option<SharedBytes>)>, CheckFault>
-    ensures found { IfOk result (λ v. v.items ≡ changes_of snapshot.now.map commit.now) }
-    ensures unsound { result ≡ Err CheckFault.Unsound → AllByRecursion (IsNameIn snapshot.now) commit.now.stale → ⊥ }
+    ensures found { IfOk result (λ v. v.items ≡ changes_by snapshot.now.map leaves.now stale.now) }
+    ensures unsound { result ≡ Err CheckFault.Unsound → AllByRecursion (IsNameIn snapshot.now) stale.now → ⊥ }
 {
-    let mut changes = removals(alloc, snapshot, commit.stale.as_slice())?;
-    put_leaves(alloc, &mut changes, commit.fresh.as_slice())?;
+    let mut changes = removals(alloc, snapshot, stale)?;
+    put_leaves(&mut changes, leaves)?;
     let list = list_of(alloc, changes)?;
     Ok(list)
 }

@@ -1,4 +1,5 @@
-// A record that isn't the first: a floor, a landing or a group of landings.
+// A decoded record that isn't the first: a floor, a landing or a group of landings. A landing alone comes as bytes
+// (next.rt), and is here since a record may be one.
 ghost use Rattle.std.specs.Prelude.{◌≡◌, ◌≢◌, Err, OnOk};
 ghost use Rattle.jf_codec.specs.declared.format.Format.{Format};
 ghost use Rattle.jf_payload.specs.Spelling.{IsRecord, IsCommit};

@@ -1,5 +1,6 @@
 //! The directory that the records of a journal of nodes lead to, or the offset of the first record that isn't sound. What
-//! was read, a commit or a checkpoint, is built anew and compared: nothing is linked from nodes that were read.
+//! was read, the bytes of a landing, a commit or a checkpoint, is built anew and compared: nothing is linked from nodes that
+//! were read.
 #![tactic(auto)]
 
 mod changes;
