@@ -234,3 +234,13 @@ two_is_no_power c d cs r =
   where
     not_none : (m : ℕ) → m ≡ 0 → 2 ^ d.nibble + bitmap cs ≡ m * 2 ^ (c.nibble + 1) → ⊥
     not_none m z e = let p = positive d.nibble in let q : m * 2 ^ (c.nibble + 1) ≡ 0 * 2 ^ (c.nibble + 1) = ap (λ x. x * 2 ^ (c.nibble + 1)) z in omega arith
+
+-- the bitmap of children has as many bits as there are children
+pub ones-bitmap : (i : ℕ) (cs : List Child) → ChildrenRiseFrom i cs → count_ones (bitmap cs) ≡ length cs
+unfolding ones
+ones-bitmap i [] rise = refl
+ones-bitmap i (c ∷ cs) rise =
+    let n = c.nibble in
+    let t = multiple (n + 1) cs rise.1 in
+    let rest : count_ones t.0 ≡ length cs = sym (ap count_ones t.1 ∙ ones_times (n + 1) t.0) ∙ ones-bitmap (n + 1) cs rise.1 in
+    ap count_ones (odd_times (bitmap cs) t.0 n t.1) ∙ ones_times n (t.0 * 2 + 1) ∙ ones_odd t.0 ∙ (let e : 1 + count_ones t.0 ≡ suc (length cs) = omega (arith, rest) in e)

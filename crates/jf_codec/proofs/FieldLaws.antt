@@ -1,5 +1,5 @@
 -- Reading a field gives the field that was written, and only that.
-use Rattle.std.proofs.Common.{◌≡◌, Result, Ok, Err, refl, Bool, true, false, cond, ℕ, ◌≤◌, ltb, List, length, take, drop, sym, subst, arith, ◌+◌, ◌++◌, ◌<◌, ◌^◌, ap, ◌∙◌}
+use Rattle.std.proofs.Common.{◌≡◌, Result, Ok, Err, refl, Bool, true, false, cond, ℕ, ◌≤◌, ltb, List, length, take, drop, sym, subst, arith, ◌++◌, ◌<◌, ◌^◌, ap, ◌∙◌}
 use Rattle.std.proofs.lemmas.Bool.{ltb-false, le-ltb}
 use Rattle.std.proofs.lemmas.List.{take-append-drop, length-take, take_at, drop_at, length-append}
 use Rattle.std.proofs.lemmas.Nat.{be_bytes_4, from_be_bytes-to_be_bytes_4, be_bytes_2, from_be_bytes-to_be_bytes_2, be_bytes_8, from_be_bytes-to_be_bytes_8}

@@ -1,6 +1,7 @@
 // Nodes are read from left to right: a tag, then the fields of a leaf or of an internal node.
 ghost use Rattle.std.specs.Prelude.{◌≡◌, ◌⊎◌, ◌++◌, ◌<◌, List, ℕ, drop, length, IfOk, Ok, Err};
 ghost use Rattle.jf_path.specs.declared.node.PlainNode.{PlainNode};
+ghost use Rattle.jf_path.specs.declared.node.PlainNode.TheVariants as node;
 ghost use Rattle.jf_codec.specs.Spelling.{IsValid, spelling};
 ghost use Rattle.jf_codec.specs.Reading.{Reads, ReadsGivenMemory, value_at, leaf_at, count_at, child_at, children_at, inner_at, node_at, whole_in, reading_with_length};
 
@@ -9,7 +10,7 @@ use crate::fault::CodecFault;
 use crate::fields::{front_of, key_at, u32_at, u64_at};
 use crate::format::Format;
 use crate::tags::{COUNTED, INNER, LEAF, NULL};
-use jf_path::{Bytes, Child, Children, MAX_VALUE, Nibble, PlainNode};
+use jf_path::{Bytes, Child, Children, Key, MAX_VALUE, Nibble, PlainNode};
 use std::alloc::Global;
 
 // A value of at most 4,096 bytes, which follows its length in four bytes.
@@ -24,13 +25,22 @@ fn value_of(bytes: &[u8]) -> Result<(&[u8], &[u8]), CodecFault>
     front_of(length as usize, rest)
 }
 
-// The leaf after its tag.
+/// The key and the value of the leaf whose tag was taken off the front of `bytes`, and the bytes after it. Otherwise the first
+/// fault from left to right.
 #[tactic(auto, unfolding(crate::specs::Reading::leaf_at))]
-fn leaf_of(alloc: Global, bytes: &[u8]) -> Result<(PlainNode, &[u8]), CodecFault>
-    ensures { ReadsGivenMemory (λ x. (x.0, x.1.now)) result (leaf_at bytes.now) }
+pub fn leaf_at(bytes: &[u8]) -> Result<((&Key, &[u8]), &[u8]), CodecFault>
+    ensures { Reads (λ x. (node.Leaf x.0.0.now x.0.1.now, x.1.now)) result (leaf_at bytes.now) }
 {
     let (key, rest) = key_at(bytes)?;
     let (value, rest) = value_of(rest)?;
+    Ok(((key, value), rest))
+}
+
+// The leaf after its tag.
+fn leaf_of(alloc: Global, bytes: &[u8]) -> Result<(PlainNode, &[u8]), CodecFault>
+    ensures { ReadsGivenMemory (λ x. (x.0, x.1.now)) result (leaf_at bytes.now) }
+{
+    let ((key, value), rest) = leaf_at(bytes)?;
     let value = Bytes::copy_of(alloc, value)?;
     Ok((PlainNode::Leaf { key: *key, value }, rest))
 }

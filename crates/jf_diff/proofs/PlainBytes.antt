@@ -2,7 +2,7 @@
 use Rattle.std.proofs.Common.{◌≡◌, ℕ, ◌+◌, ◌*◌, ◌≤◌, ◌<◌, ◌++◌, ◌∷◌, List, [], length, sym, ap, ◌∙◌, arith, subst, refl, true, false, Bool, Some, None, Option, zero, suc, map, take, get_or, zero-add, append_assoc}
 use Rattle.std.proofs.lemmas.List.{length-append, length-map, length-take, get_or-map}
 use Rattle.std.proofs.lemmas.List.Sums.{count_by-le-length, count_by_more_no, count_by_more_yes}
-use Rattle.std.specs.List.{count_by}
+use Rattle.std.specs.List.{count_by, AllByRecursion}
 use Rattle.jf_path.specs.Numbers.{four_bytes}
 use Rattle.jf_path.specs.declared.children.Child.{Child}
 use Rattle.jf_path.specs.declared.node.PlainNode.TheVariants as node
@@ -10,7 +10,7 @@ use Rattle.jf_codec.specs.Counted.{in_format}
 use Rattle.jf_codec.specs.Spelling.{IsNode, node_bytes}
 use Rattle.jf_codec.specs.declared.format.Format.{Format}
 use Rattle.jf_codec.specs.declared.format.Format.TheVariants as format
-use Rattle.jf_codec.proofs.Lengths.{inner_length, whole_hashes}
+use Rattle.jf_codec.proofs.Lengths.{whole_hashes}
 use Rattle.jf_hash.specs.Roots.{part_root}
 use Rattle.jf_hash.specs.Slots.{Part, is_occupied, slot_of}
 use Rattle.jf_hash.specs.declared.slot.Slot.TheVariants as slot
@@ -107,16 +107,6 @@ pub null_bytes : (fmt : Format) → 1 ≡ length (node_bytes fmt node.Null)
 unfolding node_bytes
 null_bytes fmt = refl
 
-module _ (x : LinkValue) (count : ℕ) (many : 2 ≤ length x.entries) (counted : count ≡ length (children_list x)) where
-  -- an inner node takes 40 bytes for each child in format 1, and 48 in format 2
-  pub bytes_in_one : IsNode format.One (in_format format.One (plain_at x [])) → 5 + count * 40 ≡ length (node_bytes format.One (plain_at x []))
-  bytes_in_one is =
-      ap (λ k. 5 + k * 40) counted
-      ∙ sym (inner_length format.One (children_list x) (whole_hashes format.One (children_list x) (subst (λ n. IsNode format.One (in_format format.One n)) (sym (inner_plain x many)) is)))
-      ∙ ap (λ n. length (node_bytes format.One n)) (inner_plain x many)
-
-  pub bytes_in_two : IsNode format.Two (in_format format.Two (plain_at x [])) → 5 + count * 48 ≡ length (node_bytes format.Two (plain_at x []))
-  bytes_in_two is =
-      ap (λ k. 5 + k * 48) counted
-      ∙ sym (inner_length format.Two (children_list x) (whole_hashes format.Two (children_list x) (subst (λ n. IsNode format.Two (in_format format.Two n)) (sym (inner_plain x many)) is)))
-      ∙ ap (λ n. length (node_bytes format.Two n)) (inner_plain x many)
+-- the hashes of the children of an inner node that has a spelling
+pub inner_hashes : (fmt : Format) (x : LinkValue) → 2 ≤ length x.entries → IsNode fmt (in_format fmt (plain_at x [])) → AllByRecursion (λ c. length c.hash ≡ 32) (children_list x)
+inner_hashes fmt x many is = whole_hashes fmt (children_list x) (subst (λ n. IsNode fmt (in_format fmt n)) (sym (inner_plain x many)) is)

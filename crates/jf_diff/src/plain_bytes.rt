@@ -6,33 +6,19 @@ ghost use Rattle.jf_codec.specs.Counted.{in_format};
 ghost use Rattle.jf_diff.specs.Plains.{children_list, plain_at, plain_under};
 
 use crate::plain_node::{branches_of, children_into};
-use jf_codec::{Format, put_inner, put_leaf, put_node};
+use jf_codec::{Format, inner_len, put_inner, put_leaf, put_node};
 use jf_hash::Places;
 use jf_node::{Link, Seen};
 use jf_path::{Bytes, Children, Memory, PlainNode};
 
 /// The number of children of an inner node.
-fn count_of_children(link: &Link) -> u64
+fn count_of_children(link: &Link) -> u32
     requires { 2 ≤ length link.now.entries }
-    ensures value { result ≡ length (children_list link.now) }
-    ensures bounded { result ≤ 16 }
+    ensures { result ≡ length (children_list link.now) }
 {
     let children = branches_of(link);
     children.know();
-    children.children().rank(16) as u64
-}
-
-/// The number of bytes of an inner node by itself.
-fn inner_len(format: Format, link: &Link) -> u64
-    requires inner { 2 ≤ length link.now.entries }
-    requires node { IsNode format (in_format format (plain_at link.now [])) }
-    ensures { result ≡ length (node_bytes format (plain_at link.now [])) }
-{
-    let count = count_of_children(link);
-    match format {
-        Format::One => 5 + count * 40,
-        Format::Two => 5 + count * 48,
-    }
+    children.children().rank(16) as u32
 }
 
 /// The number of bytes of a node by itself.
@@ -42,7 +28,7 @@ fn link_len(format: Format, link: &Link) -> u64
 {
     match link.view() {
         Seen::Leaf { value, .. } => 37 + value.len() as u64,
-        Seen::Inner { .. } => inner_len(format, link),
+        Seen::Inner { .. } => inner_len(format, count_of_children(link)),
     }
 }
 

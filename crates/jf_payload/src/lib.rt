@@ -28,4 +28,5 @@ pub use laws::{
     written_in_both,
 };
 pub use length::{names_len, sum_within};
+pub use lists::room_for;
 pub use records::{Commit, Record};

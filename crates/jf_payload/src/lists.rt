@@ -10,11 +10,14 @@ use jf_codec::Format;
 use jf_path::{FreshList, HashList, LiveList, NameList, NodeName, PlainNode};
 use std::alloc::Global;
 
-// For how many items room is taken: `count`, but no more than these bytes can have, of which an item takes so many or more.
-// So a list isn't moved as it grows, and a count that is wrong takes no more room than the bytes allow.
-fn room_for(count: u64, least: usize, bytes: &[u8]) -> u64
+/// For how many items room is taken: `count`, but no more than these bytes can have, of which an item takes `least` or more.
+/// So a list isn't moved as it grows, and a count that is wrong takes no more room than the bytes allow.
+pub fn room_for(count: u64, least: usize, bytes: &[u8]) -> u64
+    // An item takes a byte or more.
     requires { 0 < least }
+    // The result is at most the count.
     ensures count { result ≤ count }
+    // So many items, of `least` bytes each, have at most as many bytes as there are.
     ensures bounded { result * least ≤ length bytes.now }
 {
     count.min((bytes.len() / least) as u64)
