@@ -1,12 +1,12 @@
 // What a landing writes, before it is written, and its bytes. Its nodes are written as they are shared with snapshots, and no
 // list of them by themselves is made.
-ghost use Rattle.std.specs.Prelude.{◌≡◌, ◌++◌, ◌↔◌, length, IsTrue, IfOk, OnOk};
+ghost use Rattle.std.specs.Prelude.{◌≡◌, ◌++◌, ℕ, List, length, IfOk, IfSome, OnOk, Ok, None};
 ghost use Rattle.std.specs.List.{AllByRecursion};
 ghost use Rattle.jf_codec.specs.Spelling.{IsNode};
 ghost use Rattle.jf_codec.specs.Counted.{in_format};
 ghost use Rattle.jf_payload.specs.Spelling.{commit_bytes};
 
-use jf_codec::{Format, put_u64};
+use jf_codec::{Format, front_of, put_u64};
 use jf_diff::NamedNodes;
 use jf_hash::Hash;
 use jf_path::{Bytes, Memory, NameList, know_key};
@@ -62,15 +62,29 @@ impl SharedCommit {
         put_names(out, self.stale.as_slice())
     }
 
-    /// Whether bytes are its bytes in a file of this format. Its own are put together beside them.
-    pub fn is_spelled(&self, alloc: Global, bytes: &[u8], format: Format) -> Result<bool, Memory>
+    /// The bytes after its own, if bytes begin with its own in a file of this format. Its own are put together beside them.
+    pub fn strip_from<'a>(
+        &self,
+        alloc: Global,
+        bytes: &'a [u8],
+        format: Format,
+    ) -> Result<Option<&'a [u8]>, Memory>
         // What the format keeps of each node that the landing writes has a spelling.
         requires { AllByRecursion (λ x. IsNode format (in_format format x.1)) self.now.fresh }
-        // After Ok, the result is whether the bytes are those of the landing.
-        ensures { IfOk result (λ b. IsTrue b ↔ (bytes.now ≡ commit_bytes format self.now)) }
+        // After Ok with bytes, the bytes are those of the landing, and then these.
+        ensures some { IfOk result (λ o. IfSome o (λ rest. bytes.now ≡ commit_bytes format self.now ++ rest.now)) }
+        // After Ok with none, the bytes don't begin with those of the landing.
+        ensures none { result ≡ Ok None → (tail : List ℕ) → bytes.now ≡ commit_bytes format self.now ++ tail → ⊥ }
     {
-        let mut spelled = Bytes::with_capacity(alloc, bytes.len() as u64)?;
-        self.put(alloc, &mut spelled, format)?;
-        Ok(bytes == spelled.as_slice())
+        let mut own = Bytes::with_capacity(alloc, bytes.len() as u64)?;
+        self.put(alloc, &mut own, format)?;
+        let own = own.as_slice();
+        let Ok((front, rest)) = front_of(own.len(), bytes) else {
+            return Ok(None);
+        };
+        if front != own {
+            return Ok(None);
+        }
+        Ok(Some(rest))
     }
 }

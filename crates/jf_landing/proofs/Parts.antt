@@ -1,5 +1,5 @@
 -- Names and nodes at the front of bytes: where each ends, and what is there.
-use Rattle.std.proofs.Common.{◌≡◌, ℕ, ◌+◌, ◌*◌, ◌<◌, ◌≤◌, List, [], ◌∷◌, ◌++◌, length, Result, Ok, Err, Bor, count_ones, refl, sym, ap, ◌∙◌, subst, append_assoc, ap₂, arith}
+use Rattle.std.proofs.Common.{◌≡◌, ℕ, ◌<◌, ◌≤◌, List, [], ◌∷◌, ◌++◌, length, Result, Ok, Err, Bor, count_ones, refl, sym, ap, ◌∙◌, subst, append_assoc, ap₂, arith}
 use Rattle.std.proofs.lemmas.List.{append-nil}
 use Rattle.std.specs.List.{flat_map, AllByRecursion}
 use Rattle.jf_path.specs.Keys.{IsKey, IsBytes}
@@ -15,17 +15,16 @@ use Rattle.jf_codec.specs.declared.fault.CodecFault.{CodecFault}
 use Rattle.jf_codec.specs.declared.format.Format.{Format}
 use Rattle.jf_codec.specs.declared.format.Format.TheVariants as format
 use Rattle.jf_codec.specs.Reading.{bytes_at, two_at, name_at, leaf_at, node_at}
-use Rattle.jf_codec.specs.Spelling.{IsNode, node_bytes, child_bytes, bitmap, leaf_children}
-use Rattle.jf_codec.proofs.Bits.{bitmap-small}
+use Rattle.jf_codec.specs.Spelling.{IsNode, tag, node_bytes, child_bytes, bitmap, leaf_children}
+use Rattle.jf_codec.proofs.Bits.{bitmap-small, ones-bitmap}
 use Rattle.jf_codec.proofs.Counted.{in_format-same, nibbles_of}
 use Rattle.jf_codec.proofs.FieldLaws.{ok_is, two_again, bytes_again}
-use Rattle.jf_codec.proofs.Lengths.{inner_length, whole_hashes}
+use Rattle.jf_codec.proofs.Lengths.{whole_hashes}
 use Rattle.jf_codec.proofs.Names.{name_again}
 use Rattle.jf_codec.proofs.Nodes.{node_takes, node_again}
 use Rattle.jf_codec.proofs.Spellings.{one_spelling}
 use Rattle.jf_payload.specs.Spelling.{fresh_bytes}
 use Rattle.jf_landing.specs.Scanned.{GivenMemory, leaf_alone}
-use Rattle.jf_landing.proofs.Ones.{ones-bitmap}
 
 -- what comes behind the first of some bytes
 abbrev behind_first : List ℕ → List ℕ
@@ -80,50 +79,48 @@ inner_told fmt (node.Leaf key value) first bytes tail null leaf e = absurd (leaf
 inner_told fmt (node.Inner cs) first bytes tail null leaf e = (cs, refl)
 
 -- ---- internal nodes
--- the number of bytes of a child
-abbrev pub length_of_child : Format → ℕ
-length_of_child format.One = 40
-length_of_child format.Two = 48
+pub hashes_in : (fmt : Format) (cs : List Child) → IsNode fmt (node.Inner cs) → AllByRecursion (λ c. length c.hash ≡ 32) cs
+hashes_in fmt cs is = whole_hashes fmt cs (subst (IsNode fmt) (sym (in_format-same fmt (node.Inner cs) is)) is)
 
--- an internal node without its tag
-abbrev inner_body : Format → List Child → List ℕ
-inner_body fmt cs = two_bytes (bitmap cs) ++ two_bytes (bitmap (leaf_children cs)) ++ flat_map (child_bytes fmt) cs
+module _ (fmt : Format) (cs : List Child) (bytes tail : List ℕ) (is : IsNode fmt (node.Inner cs)) (e : bytes ≡ node_bytes fmt (node.Inner cs) ++ tail) where
+  -- what comes behind the first bitmap
+  abbrev behind_bits : List ℕ
+  behind_bits = two_bytes (bitmap (leaf_children cs)) ++ (flat_map (child_bytes fmt) cs ++ tail)
 
-body_long : (fmt : Format) (cs : List Child) → IsNode fmt (node.Inner cs) → length (inner_body fmt cs) ≡ 4 + length cs * length_of_child fmt
-unfolding node_bytes
-body_long fmt cs is = long fmt (whole_hashes fmt cs (subst (IsNode fmt) (sym (in_format-same fmt (node.Inner cs) is)) is))
-  where
-    long : (f : Format) → AllByRecursion (λ c. length c.hash ≡ 32) cs → length (inner_body f cs) ≡ 4 + length cs * length_of_child f
-    long format.One all = let e = inner_length format.One cs all in omega (arith, e)
-    long format.Two all = let e = inner_length format.Two cs all in omega (arith, e)
-
-module _ (fmt : Format) (cs : List Child) (first : ℕ) (bytes tail : List ℕ) (is : IsNode fmt (node.Inner cs)) (e : first ∷ bytes ≡ node_bytes fmt (node.Inner cs) ++ tail) where
-  body : bytes ≡ inner_body fmt cs ++ tail
-  unfolding node_bytes two_bytes
-  body = ap behind_first e
-
-  bits_read : two_at bytes ≡ Ok (bitmap cs, two_bytes (bitmap (leaf_children cs)) ++ (flat_map (child_bytes fmt) cs ++ tail))
-  bits_read =
+  tag_read : bytes_at 1 bytes ≡ Ok (tag fmt ∷ [], two_bytes (bitmap cs) ++ behind_bits)
+  unfolding node_bytes
+  tag_read =
       let a = two_bytes (bitmap cs) in
       let b = two_bytes (bitmap (leaf_children cs)) in
       let f = flat_map (child_bytes fmt) cs in
-      ap two_at (body ∙ append_assoc (a ++ b) f tail ∙ append_assoc a b (f ++ tail)) ∙ two_again (bitmap cs) (b ++ (f ++ tail)) (bitmap-small cs is.1 (nibbles_of fmt cs is.2))
+      ap (bytes_at 1) (e ∙ ap (λ (x : List ℕ). tag fmt ∷ x) (append_assoc (a ++ b) f tail ∙ append_assoc a b (f ++ tail))) ∙ bytes_again 1 (tag fmt ∷ []) (a ++ behind_bits) refl
 
-  pub bits_there : (f : CodecFault) → two_at bytes ≡ Err f → ⊥
-  bits_there f failed = let both = sym bits_read ∙ failed in absurd cc
+  pub tag_there : (f : CodecFault) → bytes_at 1 bytes ≡ Err f → ⊥
+  tag_there f failed = let both = sym tag_read ∙ failed in absurd cc
 
-  module _ (exist : ℕ) (after : List ℕ) (told : two_at bytes ≡ Ok (exist, after)) where
-    ends : bytes_at (4 + count_ones exist * length_of_child fmt) bytes ≡ Ok (inner_body fmt cs, tail)
-    ends =
-        let same : exist ≡ bitmap cs = ap (λ (p : ℕ × List ℕ). p.0) (ok_is (exist, after) (bitmap cs, _) (sym told ∙ bits_read)) in
-        let count : count_ones exist ≡ length cs = ap count_ones same ∙ ones-bitmap 0 cs is.1 in
-        ap₂ (λ n bs. bytes_at n bs) (ap (λ n. 4 + n * length_of_child fmt) count) body ∙ bytes_again (4 + length cs * length_of_child fmt) (inner_body fmt cs) tail (body_long fmt cs is)
+  module _ (first body : List ℕ) (told : bytes_at 1 bytes ≡ Ok (first, body)) where
+    bits_read : two_at body ≡ Ok (bitmap cs, behind_bits)
+    bits_read =
+        ap two_at (ap (λ (p : List ℕ × List ℕ). p.1) (ok_is (first, body) (tag fmt ∷ [], two_bytes (bitmap cs) ++ behind_bits) (sym told ∙ tag_read)))
+        ∙ two_again (bitmap cs) behind_bits (bitmap-small cs is.1 (nibbles_of fmt cs is.2))
 
-    pub end_there : (f : CodecFault) → bytes_at (4 + count_ones exist * length_of_child fmt) bytes ≡ Err f → ⊥
+    pub bits_there : (f : CodecFault) → two_at body ≡ Err f → ⊥
+    bits_there f failed = let both = sym bits_read ∙ failed in absurd cc
+
+    pub counted : (exist : ℕ) (after : List ℕ) → two_at body ≡ Ok (exist, after) → length cs ≡ count_ones exist
+    counted exist after read =
+        let same : exist ≡ bitmap cs = ap (λ (p : ℕ × List ℕ). p.0) (ok_is (exist, after) (bitmap cs, behind_bits) (sym read ∙ bits_read)) in
+        sym (ap count_ones same ∙ ones-bitmap 0 cs is.1)
+
+  module _ (size : ℕ) (long : size ≡ length (node_bytes fmt (node.Inner cs))) where
+    ends : bytes_at size bytes ≡ Ok (node_bytes fmt (node.Inner cs), tail)
+    ends = ap₂ (λ n bs. bytes_at n bs) long e ∙ bytes_again (length (node_bytes fmt (node.Inner cs))) (node_bytes fmt (node.Inner cs)) tail refl
+
+    pub end_there : (f : CodecFault) → bytes_at size bytes ≡ Err f → ⊥
     end_there f failed = let both = sym ends ∙ failed in absurd cc
 
-    pub end_told : (text rest : List ℕ) → bytes_at (4 + count_ones exist * length_of_child fmt) bytes ≡ Ok (text, rest) → rest ≡ tail
-    end_told text rest read = ap (λ (p : List ℕ × List ℕ). p.1) (ok_is (text, rest) (inner_body fmt cs, tail) (sym read ∙ ends))
+    pub end_told : (text rest : List ℕ) → bytes_at size bytes ≡ Ok (text, rest) → rest ≡ tail
+    end_told text rest read = ap (λ (p : List ℕ × List ℕ). p.1) (ok_is (text, rest) (node_bytes fmt (node.Inner cs), tail) (sym read ∙ ends))
 
 -- ---- a node that is no leaf
 pub given : (r : Result (Bor (List ℕ)) CodecFault) (tail : List ℕ) (leaves : List (List ℕ × List ℕ)) (n : PlainNode) → leaf_alone n ≡ [] → GivenMemory (λ rest. rest.now ≡ tail) r → GivenMemory (λ rest. (rest.now ≡ tail) × (leaves ≡ leaves ++ leaf_alone n)) r

@@ -1,18 +1,18 @@
 // The leaves among the nodes of a landing: names and inner nodes are passed over.
-ghost use Rattle.std.specs.Prelude.{◌≡◌, ◌≤◌, ◌<◌, ◌*◌, ◌∷◌, ◌++◌, [], ℕ, List, flat_map, length, IfOk, OnOk};
+ghost use Rattle.std.specs.Prelude.{◌≡◌, ◌∷◌, ◌++◌, [], ℕ, List, flat_map, length, IfOk, OnOk};
 ghost use Rattle.std.specs.List.{AllByRecursion};
 ghost use Rattle.jf_path.specs.Names.{IsName};
 ghost use Rattle.jf_path.specs.declared.name.NodeName.{NodeName};
 ghost use Rattle.jf_path.specs.declared.node.PlainNode.{PlainNode};
 ghost use Rattle.jf_path.specs.declared.node.PlainNode.TheVariants as node;
-ghost use Rattle.jf_codec.specs.Reading.{Reads, leaf_at, value_at};
 ghost use Rattle.jf_codec.specs.Spelling.{IsNode, node_bytes};
 ghost use Rattle.jf_payload.specs.Spelling.{fresh_bytes};
 ghost use Rattle.jf_landing.specs.Scanned.{GivenMemory, AreReadEntries, leaf_alone};
 
 use crate::inner::after_inner;
-use jf_codec::{CodecFault, Format, front_of, key_at, name_at, u32_at};
-use jf_path::{Key, MAX_VALUE, SharedBytes};
+use jf_codec::{CodecFault, Format, leaf_at, name_at};
+use jf_path::{Key, SharedBytes};
+use jf_payload::room_for;
 use std::alloc::Global;
 
 /// The tag of the root of the empty map.
@@ -20,28 +20,6 @@ const NULL: u8 = 0;
 
 /// The tag of a leaf.
 const LEAF: u8 = 1;
-
-// The value that follows its length.
-#[tactic(auto, unfolding(jf_codec::specs::Reading::value_at))]
-fn value_of(bytes: &[u8]) -> Result<(&[u8], &[u8]), CodecFault>
-    ensures { Reads (λ x. (x.0.now, x.1.now)) result (value_at bytes.now) }
-{
-    let (length, rest) = u32_at(bytes)?;
-    if u64::from(length) > MAX_VALUE {
-        return Err(CodecFault::Length);
-    }
-    front_of(length as usize, rest)
-}
-
-// The key and the value of a leaf after its tag, and the bytes after them.
-#[tactic(auto, unfolding(jf_codec::specs::Reading::leaf_at))]
-fn leaf_of(bytes: &[u8]) -> Result<((&Key, &[u8]), &[u8]), CodecFault>
-    ensures { Reads (λ x. (node.Leaf x.0.0.now x.0.1.now, x.1.now)) result (leaf_at bytes.now) }
-{
-    let (key, rest) = key_at(bytes)?;
-    let (value, rest) = value_of(rest)?;
-    Ok(((key, value), rest))
-}
 
 // Adds the entry of a leaf whose tag was taken off. Returns the bytes after it.
 fn add_leaf<'a>(
@@ -52,7 +30,7 @@ fn add_leaf<'a>(
     ensures entries { OnOk result (AreReadEntries leaves.old.items → AreReadEntries leaves.new.items) }
     ensures spelled { (format : Format) (key value tail : List ℕ) → IsNode format (node.Leaf key value) → 1 ∷ bytes.now ≡ node_bytes format (node.Leaf key value) ++ tail → GivenMemory (λ rest. (rest.now ≡ tail) × (leaves.new.items ≡ leaves.old.items ++ (key, value) ∷ [])) result }
 {
-    let ((key, value), rest) = leaf_of(bytes)?;
+    let ((key, value), rest) = leaf_at(bytes)?;
     let value = SharedBytes::copy_of(alloc, value)?;
     let Ok(()) = leaves.push((*key, value)) else {
         return Err(CodecFault::Memory);
@@ -79,7 +57,7 @@ fn add_node<'a>(
     if *tag == LEAF {
         return add_leaf(alloc, rest, leaves);
     }
-    after_inner(format, rest)
+    after_inner(format, bytes)
 }
 
 // Adds the entry of a named node that is a leaf. Returns the bytes after it.
@@ -98,14 +76,6 @@ fn add_named<'a>(
     }
 }
 
-/// For how many items room is taken: `count`, but no more than these bytes can have, of which an item takes so many or more.
-pub(crate) fn room_for(count: u64, least: usize, bytes: &[u8]) -> usize
-    requires { 0 < least }
-    ensures { result * least ≤ length bytes.now }
-{
-    count.min((bytes.len() / least) as u64) as usize
-}
-
 /// The entries of the leaves among `count` named nodes, and the bytes after the nodes. A name has 9 bytes or more, and a leaf
 /// 37.
 pub(crate) fn leaves_of<'a>(
@@ -117,7 +87,7 @@ pub(crate) fn leaves_of<'a>(
     ensures entries { IfOk result (λ x. AreReadEntries x.0.items) }
     ensures spelled { (xs : List (NodeName × PlainNode)) (tail : List ℕ) → length xs ≡ count → AllByRecursion (λ x. IsName x.0 × IsNode format x.1) xs → bytes.now ≡ flat_map (fresh_bytes format) xs ++ tail → GivenMemory (λ r. (r.0.items ≡ flat_map (λ x. leaf_alone x.1) xs) × (r.1.now ≡ tail)) result }
 {
-    let Ok(mut leaves) = Vec::with_capacity(alloc, room_for(count, 46, bytes)) else {
+    let Ok(mut leaves) = Vec::with_capacity(alloc, room_for(count, 46, bytes) as usize) else {
         return Err(CodecFault::Memory);
     };
     let mut rest = bytes;

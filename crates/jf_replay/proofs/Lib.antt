@@ -5,6 +5,7 @@ pub mod Read
 pub mod Spelled
 pub mod Verdicts
 pub mod Written
+pub mod Taken
 pub mod Fronts
 pub mod Numbered
 pub mod CutNodes
@@ -17,6 +18,5 @@ pub mod FloorNodes
 pub mod FloorBuilt
 pub mod FloorFound
 pub mod Chains
-pub mod Landings
 pub mod Floors
 pub mod Checkpoints

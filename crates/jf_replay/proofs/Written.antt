@@ -1,5 +1,5 @@
 -- The landing that a next version writes, in bytes: it has a spelling, and is taken exactly if bytes that were read are it.
-use Rattle.std.proofs.Common.{◌≡◌, ℕ, ◌<◌, ◌≤◌, ◌^◌, List, length, Some, refl, sym, ap, ◌∙◌, subst, arith}
+use Rattle.std.proofs.Common.{◌≡◌, ℕ, ◌<◌, ◌≤◌, ◌^◌, ◌++◌, List, length, refl, sym, ap, ◌∙◌, subst}
 use Rattle.std.specs.FinMap.{len, entries}
 use Rattle.std.specs.List.{AllByRecursion}
 use Rattle.jf_path.specs.Limits.{max_value}
@@ -9,12 +9,10 @@ use Rattle.jf_codec.specs.Spelling.{IsNode}
 use Rattle.jf_codec.specs.declared.format.Format.{Format}
 use Rattle.jf_codec.specs.declared.format.Format.TheVariants as format
 use Rattle.jf_payload.specs.declared.records.Commit.{Commit}
-use Rattle.jf_payload.specs.declared.records.Record.{Record}
 use Rattle.jf_payload.specs.declared.records.Record.TheVariants as «record»
-use Rattle.jf_payload.specs.Spelling.{IsCommit, IsSpelling, commit_bytes, record_bytes, checkpoint_kind}
+use Rattle.jf_payload.specs.Spelling.{IsCommit, commit_bytes, record_bytes}
 use Rattle.jf_payload.specs.Counted.{commit_in}
-use Rattle.jf_payload.specs.Laws.{KeptIsSpelled, SpelledIsSpelling, WrittenInBoth}
-use Rattle.jf_payload.specs.Reading.{spelled_record}
+use Rattle.jf_payload.specs.Laws.{KeptIsSpelled, WrittenInBoth}
 use Rattle.jf_payload.proofs.FormatLaws.{fresh_nodes}
 use Rattle.jf_standing.specs.Building.{landed_on}
 use Rattle.jf_standing.specs.FormatLaws.{standing_in}
@@ -22,7 +20,7 @@ use Rattle.jf_standing.specs.Named.{leaf_entries, AreEntries}
 use Rattle.jf_standing.specs.Sound.{IsSound}
 use Rattle.jf_standing.specs.SpellingLaws.{LandingsAreSpelled}
 use Rattle.jf_standing.specs.Standing.{Standing, with_commit}
-use Rattle.jf_standing.specs.Taking.{Continues, TakesRecord}
+use Rattle.jf_standing.specs.Taking.{Continues}
 use Rattle.jf_node.specs.declared.update.Update.{Update}
 use Rattle.jf_dir.specs.Directories.{IsLandingUpdate, landing_written}
 use Rattle.jf_replay.specs.Faults.{fault_of_check}
@@ -39,9 +37,9 @@ bytes_kept : KeptIsSpelled → (fmt : Format) (c : Commit) → commit_bytes fmt 
 unfolding record_bytes
 bytes_kept kept fmt c = (kept fmt («record».NodeCommit c)).0
 
--- a landing was taken that bytes are
-abbrev pub IsTakenAs : Format → Standing → List ℕ → Standing → Type 0
-IsTakenAs fmt s bytes s' = (c : Commit) × IsCommit fmt c × (bytes ≡ commit_bytes fmt c) × Continues (standing_in fmt s) c × IsSound fmt (with_commit c (standing_in fmt s)) × (standing_in fmt s' ≡ with_commit c (standing_in fmt s))
+-- a landing was taken, whose bytes stand before the rest of bytes
+abbrev pub IsTakenAs : Format → Standing → List ℕ → List ℕ → Standing → Type 0
+IsTakenAs fmt s bytes rest s' = (c : Commit) × IsCommit fmt c × (bytes ≡ commit_bytes fmt c ++ rest) × Continues s c × IsSound fmt (with_commit c s) × (s' ≡ with_commit c s)
 
 module _ (fmt : Format) (s : Standing) (u : Update) (keys : AreEntries (leaf_entries s.nodes)) (made : IsLandingUpdate s u.snapshot.map u) (own : IsMap u.snapshot.map) (room : len u.snapshot.map ≤ 2 ^ 63) where
   -- what the landing writes has a spelling
@@ -56,12 +54,13 @@ module _ (fmt : Format) (s : Standing) (u : Update) (keys : AreEntries (leaf_ent
   pub written-nodes : IsCommit fmt (commit_in fmt (landing_written u)) → AllByRecursion (λ x. IsNode fmt (in_format fmt x.1)) u.fresh
   written-nodes is = fresh_nodes fmt u.fresh is.fresh
 
-  -- bytes that are those of the landing are taken
-  pub written-taken : KeptIsSpelled → IsSound format.Two s → IsCommit fmt (commit_in fmt (landing_written u)) → (bytes : List ℕ) → bytes ≡ commit_bytes fmt (landing_written u) → IsTakenAs fmt s bytes (landed_on format.Two u.snapshot.map s)
-  written-taken kept sound is bytes same =
+  -- bytes that begin with those of the landing are taken
+  pub written-taken : KeptIsSpelled → IsSound format.Two s → IsCommit fmt (commit_in fmt (landing_written u)) → (bytes rest : List ℕ) → bytes ≡ commit_bytes fmt (landing_written u) ++ rest
+      → IsTakenAs fmt (standing_in fmt s) bytes rest (standing_in fmt (landed_on format.Two u.snapshot.map s))
+  written-taken kept sound is bytes rest same =
       let c = commit_in fmt (landing_written u) in
       let t = taken fmt s sound keys u.snapshot.map c own room made.last (ap (commit_in fmt) (landing_written-is s u.snapshot.map u made)) in
-      (c, is, same ∙ sym (bytes_kept kept fmt (landing_written u)), t.0, t.1, t.2)
+      (c, is, same ∙ ap (λ (x : List ℕ). x ++ rest) (sym (bytes_kept kept fmt (landing_written u))), t.0, t.1, t.2)
 
 -- bytes of a landing that is sound are those of the landing that is built anew
 pub sound-bytes : KeptIsSpelled → (fmt : Format) (s : Standing) (u : Update) → IsSound format.Two s → AreEntries (leaf_entries s.nodes) → (c : Commit) → IsCommit fmt c → Continues (standing_in fmt s) c → IsSound fmt (with_commit c (standing_in fmt s))
@@ -69,36 +68,6 @@ pub sound-bytes : KeptIsSpelled → (fmt : Format) (s : Standing) (u : Update) �
 sound-bytes kept fmt s u sound keys c is goes after made =
     let anew = sound-IsAsLanded fmt s sound keys c (spelled-entries fmt c is) (spelled-IsInOrder fmt c is) goes after in
     ap (commit_bytes fmt) (anew ∙ ap (commit_in fmt) (sym (landing_written-is s (read_map s c) u made))) ∙ bytes_kept kept fmt (landing_written u)
-
--- ---- the record of a landing
--- the record that bytes of a landing spell is taken
-pub bytes-follow : SpelledIsSpelling → (fmt : Format) (s s' : Standing) (kind : ℕ) (bytes : List ℕ) → kind ≡ 3 → IsTakenAs fmt s bytes s'
-    → (r : Record) × (spelled_record fmt kind bytes ≡ Some r) × TakesRecord fmt (standing_in fmt s) r (standing_in fmt s')
-unfolding record_bytes
-bytes-follow spells fmt s s' kind bytes is t =
-    («record».NodeCommit t.0, (spells fmt kind bytes («record».NodeCommit t.0)).1 (record { sound = t.1; kind_is = is; payload_is = t.2 }), (t.3, t.4, t.5))
-
--- no record that bytes spell is taken if no landing is that they are
-pub bytes-refused : SpelledIsSpelling → (fmt : Format) (s : Standing) (kind : ℕ) (bytes : List ℕ) → kind ≡ 3
-    → ((c : Commit) → IsCommit fmt c → bytes ≡ commit_bytes fmt c → Continues s c → IsSound fmt (with_commit c s) → ⊥) → (r : Record) (s' : Standing) → spelled_record fmt kind bytes ≡ Some r → TakesRecord fmt s r s' → ⊥
-unfolding record_bytes
-bytes-refused spells fmt s kind bytes is none r s' read takes = at r ((spells fmt kind bytes r).0 read) takes
-  where
-    other : (k : ℕ) → (k ≡ 3 → ⊥) → kind ≡ k → ⊥
-    other k differs e = differs (sym e ∙ is)
-
-    of_commit : (c : Commit) → record_bytes fmt («record».NodeCommit c) ≡ commit_bytes fmt c
-    of_commit c = refl
-
-    of_checkpoint : (f : Format) → kind ≡ checkpoint_kind f → ⊥
-    of_checkpoint format.One e = other 4 (λ q. omega (arith, q)) e
-    of_checkpoint format.Two e = other 5 (λ q. omega (arith, q)) e
-
-    at : (x : Record) → IsSpelling fmt x kind bytes → TakesRecord fmt s x s' → ⊥
-    at («record».Floor floor) spelling takes = other 2 (λ q. omega (arith, q)) spelling.kind_is
-    at («record».NodeCommit c) spelling takes = none c spelling.sound (spelling.payload_is ∙ of_commit c) takes.0 takes.1
-    at («record».Checkpoint generation base floor head roots nodes) spelling takes = of_checkpoint fmt spelling.kind_is
-    at («record».Group cs) spelling takes = other 6 (λ q. omega (arith, q)) spelling.kind_is
 
 -- a refusal as unsound is told at the record's offset
 pub refused-unsound : (f : CheckFault) (offset at : ℕ) (r : ReplayFault) → r ≡ fault_of_check offset f → r ≡ fault.Unsound at → (f ≡ check_fault.Unsound) × (at ≡ offset)

@@ -1,6 +1,6 @@
 // A landing that was read is taken exactly if it writes what a landing of the changes that are read off it writes. It is read
 // as bytes, or as a commit.
-ghost use Rattle.std.specs.Prelude.{◌≡◌, ◌≤◌, ◌^◌, IfOk, OnOk, OnErr, Err, length};
+ghost use Rattle.std.specs.Prelude.{◌≡◌, ◌≤◌, ◌^◌, ◌++◌, ℕ, List, IfOk, OnOk, OnErr, Err, length};
 ghost use Rattle.std.specs.FinMap.{len};
 ghost use Rattle.std.specs.List.{AllByRecursion};
 ghost use Rattle.jf_path.specs.Limits.{max_value};
@@ -102,8 +102,8 @@ pub(crate) fn check<H: Threads + Sync>(
     Ok(())
 }
 
-/// What the landing of the changes that are read off bytes would write. `Unsound` only if the bytes are no landing's, or no
-/// such landing may be the next one.
+/// What the landing of the changes that are read off bytes would write. `Unsound` only if the bytes begin with no landing's, or
+/// no such landing may be the next one.
 fn next_spelled<H: Threads + Sync>(
     rt: &H,
     alloc: Global,
@@ -112,10 +112,10 @@ fn next_spelled<H: Threads + Sync>(
     format: Format,
     workers: Workers,
 ) -> Result<NextVersion, CheckFault>
-    ensures landing { (c : Commit) → IsCommit format c → bytes.now ≡ commit_bytes format c → IfOk result (IsLandingUpdate directory.now (read_map directory.now c)) }
+    ensures landing { (c : Commit) (tail : List ℕ) → IsCommit format c → bytes.now ≡ commit_bytes format c ++ tail → IfOk result (IsLandingUpdate directory.now (read_map directory.now c)) }
     ensures own { IfOk result (λ u. IsLandingUpdate directory.now u.snapshot.map u) }
     ensures room { IfOk result (λ u. len u.snapshot.map ≤ 2 ^ 63) }
-    ensures unsound { result ≡ Err CheckFault.Unsound → (c : Commit) → IsCommit format c → bytes.now ≡ commit_bytes format c → MayBeNext directory.now (fresh_leaves c) c.stale → ⊥ }
+    ensures unsound { result ≡ Err CheckFault.Unsound → (c : Commit) (tail : List ℕ) → IsCommit format c → bytes.now ≡ commit_bytes format c ++ tail → MayBeNext directory.now (fresh_leaves c) c.stale → ⊥ }
 {
     match scan_landing(alloc, bytes, format) {
         Ok(read) => next_of(rt, alloc, directory, &read.leaves, &read.stale, workers),
@@ -124,19 +124,19 @@ fn next_spelled<H: Threads + Sync>(
     }
 }
 
-/// Takes the landing that bytes are in a file of this format, if it continues from the head and leaves a sound standing: the
-/// changes that are read off the bytes are landed on the directory, and the bytes of what that writes are compared with
-/// them. If it is refused, the directory is unchanged.
-pub(crate) fn check_spelled<H: Threads + Sync>(
+/// Takes the landing at the front of bytes in a file of this format, if it continues from the head and leaves a sound
+/// standing: the changes that are read off the bytes are landed on the directory, and the bytes of what that writes are
+/// compared with them. Returns the bytes after the landing. If it is refused, the directory is unchanged.
+pub(crate) fn check_spelled<'a, H: Threads + Sync>(
     rt: &H,
     alloc: Global,
     directory: &mut Directory,
-    bytes: &[u8],
+    bytes: &'a [u8],
     format: Format,
     workers: Workers,
-) -> Result<(), CheckFault>
-    ensures taken { OnOk result ((c : Commit) × IsCommit format c × (bytes.now ≡ commit_bytes format c) × Continues (standing_in format directory.old) c × IsSound format (with_commit c (standing_in format directory.old)) × (standing_in format directory.new ≡ with_commit c (standing_in format directory.old))) }
-    ensures unsound { result ≡ Err CheckFault.Unsound → (c : Commit) → IsCommit format c → bytes.now ≡ commit_bytes format c → Continues (standing_in format directory.old) c → IsSound format (with_commit c (standing_in format directory.old)) → ⊥ }
+) -> Result<&'a [u8], CheckFault>
+    ensures taken { IfOk result (λ rest. (c : Commit) × IsCommit format c × (bytes.now ≡ commit_bytes format c ++ rest.now) × Continues (standing_in format directory.old) c × IsSound format (with_commit c (standing_in format directory.old)) × (standing_in format directory.new ≡ with_commit c (standing_in format directory.old))) }
+    ensures unsound { result ≡ Err CheckFault.Unsound → (c : Commit) (tail : List ℕ) → IsCommit format c → bytes.now ≡ commit_bytes format c ++ tail → Continues (standing_in format directory.old) c → IsSound format (with_commit c (standing_in format directory.old)) → ⊥ }
     ensures err { OnErr result (directory.new ≡ directory.old) }
 {
     directory.know();
@@ -147,10 +147,10 @@ pub(crate) fn check_spelled<H: Threads + Sync>(
     next.snapshot().know();
     // Ensures that the counts have 64 bits.
     let _ = (next.landing().fresh.len(), next.landing().stale.len());
-    if !next.landing().is_spelled(alloc, bytes, format)? {
+    let Some(rest) = next.landing().strip_from(alloc, bytes, format)? else {
         return Err(CheckFault::Unsound);
-    }
+    };
     let (landing, snapshot) = next.into_parts();
     directory.apply_landing(&landing, snapshot)?;
-    Ok(())
+    Ok(rest)
 }

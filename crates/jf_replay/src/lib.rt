@@ -13,7 +13,6 @@ mod fault;
 mod first;
 mod floor;
 mod landing;
-mod later;
 mod lent;
 mod named;
 mod next;
@@ -21,6 +20,7 @@ mod numbers;
 mod replaying;
 mod same;
 mod since;
+mod taking;
 
 pub use fault::ReplayFault;
 pub use first::Replayed;

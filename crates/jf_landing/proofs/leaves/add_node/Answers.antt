@@ -32,4 +32,4 @@ returns-clause-spelled c = λ n tail is e.
     let whole = sym parts ∙ e in
     let told = inner_told fmt n c.in-Some.tag.now c.in-Some.rest.now tail c.if-tag-eq-NULL.false c.if-tag-eq-LEAF.false whole in
     given c.after_inner.result tail c.args.leaves.now.items n (ap leaf_alone told.1)
-    (c.after_inner.ensures c.in-Some.tag.now told.0 tail (subst (IsNode fmt) told.1 is) (whole ∙ ap (λ m. node_bytes fmt m ++ tail) told.1))
+    (c.after_inner.ensures told.0 tail (subst (IsNode fmt) told.1 is) (e ∙ ap (λ m. node_bytes fmt m ++ tail) told.1))

@@ -1,4 +1,4 @@
-use Rattle.std.proofs.Common.{◌≡◌, ap, Err}
+use Rattle.std.proofs.Common.{ap, Err}
 use Rattle.jf_replay.proofs.Written.{refused-unsound}
 use Rattle.jf_replay.proofs.next.take_next.Goals as goal
 

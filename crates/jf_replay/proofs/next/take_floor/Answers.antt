@@ -1,6 +1,6 @@
 use Rattle.std.proofs.Common.{◌≤◌, arith}
 use Rattle.jf_replay.proofs.Floors.{floor_taken}
-use Rattle.jf_replay.proofs.later.take_floor.Goals as goal
+use Rattle.jf_replay.proofs.next.take_floor.Goals as goal
 
 pub returns-clause-taken : goal.returns-clause-taken
 returns-clause-taken c = λ fmt.
