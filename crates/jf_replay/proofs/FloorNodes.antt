@@ -16,6 +16,8 @@ use Rattle.jf_hash.specs.Maps.{Map, map_of_entries, same_key}
 use Rattle.jf_hash.specs.Slots.{Part}
 use Rattle.jf_hash.proofs.KeyOrder.{same_key-exact}
 use Rattle.jf_hash.proofs.MapLaws.{map-from_entries}
+use Rattle.jf_split.specs.KeyOrder.{in_key_order}
+use Rattle.jf_split.proofs.KeyOrderLaws.{sorted-in_key_order, find-in_key_order}
 use Rattle.jf_model.specs.Nodes.{Path, nodes, is_node, under}
 use Rattle.jf_codec.specs.declared.format.Format.{Format}
 use Rattle.jf_walk.proofs.FreshOrder.{sorted-nodes_below}
@@ -40,8 +42,8 @@ use Rattle.jf_node.specs.SnapshotValue.{SnapshotValue}
 use Rattle.jf_diff.specs.Landings.{version_in, version_or}
 use Rattle.jf_update.specs.Restored.{AreNodeVersions, IsRestored, by_path}
 use Rattle.jf_replay.specs.Cuts.{is_written_by}
-use Rattle.jf_replay.specs.Floors.{in_key_order, path_and_version, entries_in, versions_by_path, AreFloorVersions}
-use Rattle.jf_replay.proofs.KeyOrder.{entries-in_key_order, sorted-in_key_order, find-in_key_order}
+use Rattle.jf_replay.specs.Floors.{path_and_version, entries_in, versions_by_path, AreFloorVersions}
+use Rattle.jf_replay.proofs.KeyOrder.{entries-in_key_order}
 use Rattle.jf_replay.proofs.Numbered.{IsNumbered}
 
 -- the nodes written by the floor are those alive there, if none is stale by then

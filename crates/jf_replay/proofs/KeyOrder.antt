@@ -1,19 +1,20 @@
 -- Lists in the order of their keys, which are put one by one, from the last element to the first.
-use Rattle.std.proofs.Common.{◌≡◌, ℕ, ◌-◌, ◌<◌, ◌≤◌, List, [], ◌∷◌, ◌^◌, map, length, drop, get_or, Some, refl, sym, ap, ◌∙◌, subst, T, cond, Less, Equal, Greater, Ordering}
+use Rattle.std.proofs.Common.{◌≡◌, ℕ, ◌-◌, ◌<◌, ◌≤◌, List, ◌∷◌, ◌^◌, map, length, drop, get_or, Some, sym, ap, ◌∙◌, subst}
 use Rattle.std.specs.BTreeMap.{insert_entry}
 use Rattle.std.specs.Cmp.Lexicographic.{nat_list_cmp_total}
-use Rattle.std.specs.FinMap.{put, find, is_sorted, entries, from_entries}
+use Rattle.std.specs.FinMap.{put, entries, from_entries}
 use Rattle.std.specs.FinMap as fin
-use Rattle.std.specs.FinMap.Entries.{by_order, is_sorted-put, find-put, same_entries}
+use Rattle.std.specs.FinMap.Entries.{same_entries}
 use Rattle.std.specs.List.{cons_option, AllByRecursion}
-use Rattle.std.specs.Ordering.{match_ordering, eq_by_cmp}
 use Rattle.jf_path.specs.Keys.{key_cmp}
 use Rattle.jf_path.specs.declared.node.PlainNode.{PlainNode}
 use Rattle.jf_path.specs.declared.node.PlainNode.TheVariants as node
 use Rattle.jf_hash.proofs.KeyOrder.{same_key-exact}
 use Rattle.jf_hash.specs.Maps.{Map}
+use Rattle.jf_split.specs.KeyOrder.{in_key_order}
+use Rattle.jf_split.proofs.KeyOrderLaws.{sorted-in_key_order, find-in_key_order}
 use Rattle.jf_standing.specs.Named.{NamedNode, leaf_entry, leaf_entries}
-use Rattle.jf_replay.specs.Floors.{in_key_order, path_and_version, entries_in}
+use Rattle.jf_replay.specs.Floors.{path_and_version, entries_in}
 use Rattle.std.proofs.lemmas.Option.{same_Some}
 use Rattle.jf_path.specs.Limits.{max_value}
 use Rattle.jf_path.specs.Names.{IsName}
@@ -23,28 +24,7 @@ use Rattle.jf_codec.specs.declared.format.Format.{Format}
 use Rattle.jf_standing.proofs.Leaves.{leaf-which}
 use Rattle.jf_standing.proofs.Lists.{All-each_element}
 use Rattle.jf_standing.proofs.Ordered.{find-Contains, Contains-find}
-use Rattle.jf_replay.proofs.Puts.{drop-up}
-
-module _ {X : Type 0} where
-  same_choice : (o : Ordering) (x y z : List (List ℕ × X)) → match_ordering o x y z ≡ by_order o x y z
-  same_choice Less x y z = refl
-  same_choice Equal x y z = refl
-  same_choice Greater x y z = refl
-
-  -- a key set in std's tree is put into the list of its entries
-  pub insert_entry-is_put : (k : List ℕ) (v : X) (es : List (List ℕ × X)) → insert_entry key_cmp es k v ≡ put key_cmp k v es
-  insert_entry-is_put k v [] = refl
-  insert_entry-is_put k v (e ∷ es) =
-      same_choice (key_cmp k e.0) ((k, v) ∷ e ∷ es) ((e.0, v) ∷ es) (e ∷ insert_entry key_cmp es k v)
-      ∙ ap (λ t. by_order (key_cmp k e.0) ((k, v) ∷ e ∷ es) ((e.0, v) ∷ es) (e ∷ t)) (insert_entry-is_put k v es)
-
-  pub sorted-in_key_order : (es : List (List ℕ × X)) → T (is_sorted key_cmp (in_key_order es))
-  sorted-in_key_order [] = tt
-  sorted-in_key_order (e ∷ es) = is_sorted-put key_cmp nat_list_cmp_total e.0 e.1 (in_key_order es) (sorted-in_key_order es)
-
-  pub find-in_key_order : (q : List ℕ) (es : List (List ℕ × X)) → find key_cmp q (in_key_order es) ≡ find key_cmp q es
-  find-in_key_order q [] = refl
-  find-in_key_order q (e ∷ es) = find-put key_cmp nat_list_cmp_total q e.0 e.1 (in_key_order es) ∙ ap (λ o. cond (eq_by_cmp key_cmp q e.0) (Some e.1) o) (find-in_key_order q es)
+use Rattle.jf_replay.proofs.Puts.{drop-up, insert_entry-is_put}
 
 -- the entries of the map of a list are the list in the order of its keys
 pub entries-in_key_order : (es : List (List ℕ × List ℕ)) → entries (from_entries {R = key_cmp} es) ≡ in_key_order es

@@ -1,14 +1,15 @@
 -- Changes that are put one by one, from the last node of a list to the first.
-use Rattle.std.proofs.Common.{◌≡◌, ℕ, ◌+◌, ◌-◌, ◌<◌, ◌≤◌, List, [], ◌∷◌, ◌++◌, length, drop, get_or, drop-cons, Some, None, refl, sym, ap, ◌∙◌, arith, add-one, reverse}
+use Rattle.std.proofs.Common.{◌≡◌, ℕ, ◌+◌, ◌-◌, ◌<◌, ◌≤◌, List, [], ◌∷◌, ◌++◌, length, drop, get_or, drop-cons, Some, None, refl, sym, ap, ◌∙◌, arith, add-one, reverse, Ordering, Less, Equal, Greater}
 use Rattle.std.proofs.lemmas.List.{get_or-reverse, length-reverse, length_push}
 use Rattle.std.specs.BTreeMap.{insert_entry}
 use Rattle.std.specs.FinMap.{put, entries}
+use Rattle.std.specs.FinMap.Entries.{by_order}
+use Rattle.std.specs.Ordering.{match_ordering}
 use Rattle.jf_path.specs.Keys.{key_cmp}
 use Rattle.jf_path.specs.declared.name.NodeName.{NodeName}
 use Rattle.jf_hash.specs.Maps.{Map, Batch}
 use Rattle.jf_hash.specs.Slots.{Part}
 use Rattle.jf_model.specs.Nodes.{under}
-use Rattle.jf_split.proofs.Gathered.{insert_entry-put}
 use Rattle.jf_standing.specs.Landing.{by_key}
 use Rattle.jf_standing.proofs.Batches.{puts_of, removals_of}
 use Rattle.jf_replay.specs.Changes.{put_each, leaves_at, sole, removal_of}
@@ -20,6 +21,18 @@ put_each-by_key [] (e ∷ ys) = ap (put key_cmp e.0 e.1) (put_each-by_key [] ys)
 put_each-by_key (e ∷ xs) ys = ap (put key_cmp e.0 e.1) (put_each-by_key xs ys)
 
 module _ {X : Type 0} where
+  same_choice : (o : Ordering) (x y z : List (List ℕ × X)) → match_ordering o x y z ≡ by_order o x y z
+  same_choice Less x y z = refl
+  same_choice Equal x y z = refl
+  same_choice Greater x y z = refl
+
+  -- a key set in std's tree is put into the list of its entries
+  pub insert_entry-is_put : (k : List ℕ) (v : X) (es : List (List ℕ × X)) → insert_entry key_cmp es k v ≡ put key_cmp k v es
+  insert_entry-is_put k v [] = refl
+  insert_entry-is_put k v (e ∷ es) =
+      same_choice (key_cmp k e.0) ((k, v) ∷ e ∷ es) ((e.0, v) ∷ es) (e ∷ insert_entry key_cmp es k v)
+      ∙ ap (λ t. by_order (key_cmp k e.0) ((k, v) ∷ e ∷ es) ((e.0, v) ∷ es) (e ∷ t)) (insert_entry-is_put k v es)
+
   -- from one element further up
   pub drop-up : (xs : List X) (i : ℕ) (d : X) → 0 < i → i ≤ length xs → drop (i - 1) xs ≡ get_or xs (i - 1) d ∷ drop i xs
   drop-up xs i d some low =
@@ -39,14 +52,14 @@ put-removal m name names key b is = ap (λ (es : Batch). put_each es b) (joined 
 pub put-leaf-at : (leaves : Part) (i : ℕ) (x : List ℕ × List ℕ) (b old new : Batch) → 0 < i → i ≤ length leaves → x ≡ get_or leaves (i - 1) x
     → old ≡ put_each (puts_of (drop i leaves)) b → new ≡ insert_entry key_cmp old x.0 (Some x.1) → new ≡ put_each (puts_of (drop (i - 1) leaves)) b
 put-leaf-at leaves i x b old new some low at was now =
-    now ∙ insert_entry-put x.0 (Some x.1) old ∙ ap (put key_cmp x.0 (Some x.1)) was
+    now ∙ insert_entry-is_put x.0 (Some x.1) old ∙ ap (put key_cmp x.0 (Some x.1)) was
     ∙ ap (λ es. put_each (puts_of es) b) (ap (λ (y : List ℕ × List ℕ). y ∷ drop i leaves) at ∙ sym (drop-up leaves i x some low))
 
 -- the leaf of the name at a place of a list is removed, before those after it
 pub put-removal-at : (m : Map) (names : List NodeName) (i : ℕ) (x : NodeName) (key : List ℕ) (b old new : Batch) → 0 < i → i ≤ length names → x ≡ get_or names (i - 1) x → removals_of (sole (under 0 x.path (entries m))) ≡ removal_of (Some key)
     → old ≡ put_each (removals_of (leaves_at m (drop i names))) b → new ≡ insert_entry key_cmp old key None → new ≡ put_each (removals_of (leaves_at m (drop (i - 1) names))) b
 put-removal-at m names i x key b old new some low at is was now =
-    now ∙ insert_entry-put key None old ∙ ap (put key_cmp key None) was ∙ sym (put-removal m x (drop i names) key b is)
+    now ∙ insert_entry-is_put key None old ∙ ap (put key_cmp key None) was ∙ sym (put-removal m x (drop i names) key b is)
     ∙ ap (λ xs. put_each (removals_of (leaves_at m xs)) b) (ap (λ (y : NodeName). y ∷ drop i names) at ∙ sym (drop-up names i x some low))
 
 -- ---- a list from its last element to its first

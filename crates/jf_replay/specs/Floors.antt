@@ -1,19 +1,13 @@
 -- What is read off the nodes of a floor: the entries of its map, and the versions of its nodes.
-use Rattle.std.specs.Prelude.{ℕ, Bool, ◌&&◌, List, [], ◌∷◌, map}
-use Rattle.std.specs.FinMap.{put}
-use Rattle.jf_path.specs.Keys.{key_cmp}
+use Rattle.std.specs.Prelude.{ℕ, Bool, ◌&&◌, List, map}
 use Rattle.jf_hash.specs.Maps.{map_of_entries}
+use Rattle.jf_split.specs.KeyOrder.{in_key_order}
 use Rattle.jf_model.specs.Nodes.{Path, nodes}
 use Rattle.jf_update.specs.Restored.{AreNodeVersions}
 use Rattle.jf_codec.specs.Counted.{in_format}
 use Rattle.jf_codec.specs.declared.format.Format.{Format}
 use Rattle.jf_standing.specs.Named.{NamedNode, leaf_entries}
 use Rattle.jf_standing.specs.Same.{same_name, same_node}
-
--- a list in the order of its keys, each key once, with what comes first for it
-abbrev pub in_key_order : {X : Type 0} → List (List ℕ × X) → List (List ℕ × X)
-in_key_order [] = []
-in_key_order (e ∷ es) = put key_cmp e.0 e.1 (in_key_order es)
 
 -- the path of a node and the version that wrote it
 abbrev pub path_and_version : NamedNode → Path × ℕ

@@ -9,6 +9,7 @@ pub use Rattle.jf_path.specs.Limits
 pub use Rattle.jf_path.specs.Names
 pub use Rattle.jf_hash.specs.Maps
 pub use Rattle.jf_hash.specs.Slots
+pub use Rattle.jf_split.specs.KeyOrder
 pub use Rattle.jf_model.specs.ChildEntries
 pub use Rattle.jf_model.specs.Nodes
 pub use Rattle.jf_frame.specs.Framed

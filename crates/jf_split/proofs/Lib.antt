@@ -5,4 +5,5 @@ pub mod PieceSteps
 pub mod Ends
 pub mod BatchLaws
 pub mod PieceLaws
+pub mod KeyOrderLaws
 pub mod Gathered

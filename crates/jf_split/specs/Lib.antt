@@ -1,3 +1,5 @@
+pub mod HashedKeyLaws
+pub mod KeyOrder
 pub mod Limits
 pub mod Places
 pub mod Pieces

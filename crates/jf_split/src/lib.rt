@@ -4,6 +4,7 @@
 
 mod batch;
 mod fault;
+mod hashed_key;
 mod list;
 mod pending;
 mod piece;

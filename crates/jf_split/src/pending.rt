@@ -1,22 +1,29 @@
 // Changes that are being gathered in any order, until they are made a batch.
-ghost use Rattle.std.specs.Prelude.{◌≡◌, ◌⊎◌, [], ◌≤◌, length, OnOk, OnErr, IfOk, IfSome, IsSome, IsOk, Some, None, Err, IsTrue};
+ghost use Rattle.std.specs.Prelude.{◌≡◌, ◌⊎◌, [], ◌≤◌, length, OnOk, OnErr, IfOk, IfSome, IsSome, IsOk, Some, None, Err, IsTrue, map};
+ghost use Rattle.std.specs.List.{IsDistinct};
 ghost use Rattle.std.specs.FinMap.{put, find};
 ghost use Rattle.jf_path.specs.Limits.{max_value};
 ghost use Rattle.jf_path.specs.Keys.{key_cmp, IsBytes};
+ghost use Rattle.jf_hash.specs.Maps.{same_key};
+ghost use Rattle.jf_split.specs.KeyOrder.{in_key_order};
 ghost use Rattle.jf_split.specs.Limits.{is_full};
 
 use crate::batch::{Batch, MAX_KEYS, share_if};
 use crate::fault::BatchFault;
+use crate::hashed_key::HashedKey;
 use jf_path::{Key, Memory, SharedBytes, know_bytes};
 use std::alloc::Global;
-use std::collections::BTreeMap;
+use std::collections::HashMap;
 use std::marker::Model;
 
+/// For so many changes `clear` keeps room, if there were no more.
+const FEW: usize = 64;
+
 /// Changes for a batch: at most 10,000 keys, each once, with a value of at most 4,096 bytes or with `None`, which
-/// removes the key. They may come in any order: a change takes a walk down a tree, and moves no other change.
+/// removes the key. They may come in any order, and are sorted once, as the batch is made.
 #[derive(Drop)]
 pub struct Pending {
-    entries: BTreeMap<Key, Option<SharedBytes>>,
+    entries: HashMap<HashedKey, Option<SharedBytes>>,
 }
 
 impl Model for Pending {
@@ -25,11 +32,12 @@ impl Model for Pending {
     ghost Value = { List (List ℕ × Option (List ℕ)) };
 
     ghost use Rattle.jf_hash.specs.Maps.{IsBatch};
+    ghost use Rattle.jf_split.specs.KeyOrder.{in_key_order};
     ghost use Rattle.jf_split.specs.Limits.{IsWithinLimits};
 
-    ghost view = { λ p. p.entries.entries };
+    ghost view = { λ p. in_key_order p.entries.entries };
 
-    ghost invariant = { λ p. IsBatch p.entries.entries × IsWithinLimits p.entries.entries };
+    ghost invariant = { λ p. IsBatch (in_key_order p.entries.entries) × IsWithinLimits (in_key_order p.entries.entries) };
 }
 
 impl Pending {
@@ -39,7 +47,7 @@ impl Pending {
         ensures { result ≡ [] }
     {
         Pending {
-            entries: BTreeMap::new(alloc),
+            entries: HashMap::new(alloc),
         }
     }
 
@@ -91,19 +99,22 @@ impl Pending {
         // After Ok, the batch has exactly these changes.
         ensures { IfOk result (λ b. b ≡ self.now) }
     {
-        let mut entries = Vec::with_capacity(alloc, self.entries.len())?;
-        for (key, value) in &self.entries {
-            entries.push((*key, share_if(value)?))?;
-        }
+        let mut entries = copied(alloc, &self.entries)?;
+        sort_changes(&mut entries);
         Ok(Batch { entries })
     }
 
-    /// Drops all changes.
+    /// Drops all changes. If they were few, room for many is given back, so that what comes after a large batch takes no
+    /// longer for it.
     pub fn clear(&mut self)
         // No changes are left.
         ensures { self.new ≡ [] }
     {
+        let were_few = self.entries.len() <= FEW;
         self.entries.clear();
+        if were_few {
+            self.entries.shrink_to(FEW);
+        }
     }
 
     // Sets a key to its value, or to `None`.
@@ -119,7 +130,7 @@ impl Pending {
         if self.is_full(key) {
             return Err(BatchFault::Full);
         }
-        self.entries.insert(*key, value)?;
+        self.entries.insert(HashedKey::of(key), value)?;
         Ok(())
     }
 
@@ -127,6 +138,29 @@ impl Pending {
     fn is_full(&self, key: &Key) -> bool
         ensures { result ≡ is_full key.now self.now }
     {
-        self.entries.len() >= MAX_KEYS && !self.entries.contains_key(key)
+        self.entries.len() >= MAX_KEYS && !self.entries.contains_key(&HashedKey::of(key))
     }
+}
+
+// The changes of a hash map in its order, with their values shared.
+fn copied(
+    alloc: Global,
+    entries: &HashMap<HashedKey, Option<SharedBytes>>,
+) -> Result<Vec<(Key, Option<SharedBytes>)>, Memory>
+    ensures same { IfOk result (λ changes. changes.items ≡ entries.now.entries) }
+    ensures distinct { IfOk result (λ changes. IsDistinct same_key (map (λ e. e.0) changes.items)) }
+{
+    let mut changes = Vec::with_capacity(alloc, entries.len())?;
+    for (key, value) in entries {
+        changes.push((key.get(), share_if(value)?))?;
+    }
+    Ok(changes)
+}
+
+// Sorts changes by their keys.
+fn sort_changes(changes: &mut [(Key, Option<SharedBytes>)])
+    requires { IsDistinct same_key (map (λ e. e.0) changes.old) }
+    ensures { changes.new ≡ in_key_order changes.old }
+{
+    changes.sort_unstable_by(|a, b| a.0.cmp(&b.0));
 }

@@ -1,5 +1,6 @@
 use Rattle.std.proofs.Common.{◌≡◌, drop, map}
-use Rattle.jf_replay.specs.Floors.{in_key_order, path_and_version}
+use Rattle.jf_split.specs.KeyOrder.{in_key_order}
+use Rattle.jf_replay.specs.Floors.{path_and_version}
 use Rattle.jf_replay.proofs.entries.paths_of.Given as goal
 
 -- the tree has the nodes so far, from the last one on

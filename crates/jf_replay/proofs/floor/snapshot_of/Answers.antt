@@ -1,9 +1,10 @@
 use Rattle.std.proofs.Common.{sym, ◌∙◌, subst, T}
 use Rattle.std.specs.FinMap.{is_sorted}
 use Rattle.jf_path.specs.Keys.{key_cmp}
+use Rattle.jf_split.proofs.KeyOrderLaws.{sorted-in_key_order}
 use Rattle.jf_standing.specs.Named.{leaf_entries}
 use Rattle.jf_update.specs.Restored.{AreShortEntries}
-use Rattle.jf_replay.proofs.KeyOrder.{sorted-in_key_order, short-in_key_order}
+use Rattle.jf_replay.proofs.KeyOrder.{short-in_key_order}
 use Rattle.jf_replay.proofs.floor.snapshot_of.Goals as goal
 
 pub restored_from-requires-clause-sorted : goal.restored_from-requires-clause-sorted
