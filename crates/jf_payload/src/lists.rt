@@ -1,5 +1,5 @@
 // A list is the number of its items and then the items; in lists of names or nodes the names rise strictly.
-ghost use Rattle.std.specs.Prelude.{◌≡◌, ◌*◌, ◌<◌, ◌≤◌, [], length};
+ghost use Rattle.std.specs.Prelude.{◌≡◌, ◌*◌, ◌<◌, ◌≤◌, ℕ, [], length};
 ghost use Rattle.jf_path.specs.Names.{are_rising};
 ghost use Rattle.jf_payload.specs.Reading.{Gives, many_at, named_at, hash_at, fresh_at, live_at, any_hashes, fresh_rise, live_rise, fresh_list_at, name_list_at, live_list_at};
 
@@ -19,6 +19,8 @@ pub fn room_for(count: u64, least: usize, bytes: &[u8]) -> u64
     ensures count { result ≤ count }
     // So many items, of `least` bytes each, have at most as many bytes as there are.
     ensures bounded { result * least ≤ length bytes.now }
+    // It is the most for which both hold.
+    ensures most { (n : ℕ) → n ≤ count → n * least ≤ length bytes.now → n ≤ result }
 {
     count.min((bytes.len() / least) as u64)
 }

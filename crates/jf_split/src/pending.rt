@@ -17,7 +17,7 @@ use std::collections::HashMap;
 use std::marker::Model;
 
 /// For so many changes `clear` keeps room, if there were no more.
-const FEW: usize = 64;
+const KEPT_ROOM: usize = 64;
 
 /// Changes for a batch: at most 10,000 keys, each once, with a value of at most 4,096 bytes or with `None`, which
 /// removes the key. They may come in any order, and are sorted once, as the batch is made.
@@ -104,16 +104,16 @@ impl Pending {
         Ok(Batch { entries })
     }
 
-    /// Drops all changes. If they were few, room for many is given back, so that what comes after a large batch takes no
-    /// longer for it.
+    /// Drops all changes. If they were at most 64, room for more than 64 is given back, so that what comes after a large
+    /// batch takes no longer for it.
     pub fn clear(&mut self)
         // No changes are left.
         ensures { self.new ≡ [] }
     {
-        let were_few = self.entries.len() <= FEW;
+        let were_few = self.entries.len() <= KEPT_ROOM;
         self.entries.clear();
         if were_few {
-            self.entries.shrink_to(FEW);
+            self.entries.shrink_to(KEPT_ROOM);
         }
     }
 
@@ -147,7 +147,7 @@ fn copied(
     alloc: Global,
     entries: &HashMap<HashedKey, Option<SharedBytes>>,
 ) -> Result<Vec<(Key, Option<SharedBytes>)>, Memory>
-    ensures same { IfOk result (λ changes. changes.items ≡ entries.now.entries) }
+    ensures value { IfOk result (λ changes. changes.items ≡ entries.now.entries) }
     ensures distinct { IfOk result (λ changes. IsDistinct same_key (map (λ e. e.0) changes.items)) }
 {
     let mut changes = Vec::with_capacity(alloc, entries.len())?;
