@@ -1,5 +1,5 @@
 // What is read off the nodes of a floor: the entries of its map, and the versions of its nodes.
-ghost use Rattle.std.specs.Prelude.{◌≡◌, map, IfOk, OnOk};
+ghost use Rattle.std.specs.Prelude.{◌≡◌, map, IfOk};
 ghost use Rattle.jf_split.specs.KeyOrder.{in_key_order};
 ghost use Rattle.jf_replay.specs.Floors.{entries_in, path_and_version, versions_by_path};
 

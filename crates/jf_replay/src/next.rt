@@ -62,8 +62,9 @@ fn take_payload<H: Threads + Sync>(
     }
     match decode(alloc, kind, payload, format) {
         Ok(Record::Floor(floor)) => take_floor(directory, floor),
+        Ok(Record::NodeCommit(_) | Record::Group(_) | Record::Checkpoint { .. })
+        | Err(RecordFault::Bad) => Err(CheckFault::Unsound),
         Err(RecordFault::Memory) => Err(CheckFault::Memory),
-        _ => Err(CheckFault::Unsound),
     }
 }
 

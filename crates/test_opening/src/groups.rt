@@ -55,3 +55,40 @@ fn a_record_of_three_landings_is_there_whole_or_not(rt: HostRuntime) -> Result<(
     assert!(rt; is_opened(&rt, alloc, &whole, Status::Done, Some(3))?);
     Ok(())
 }
+
+// What is altered in the whole file: of the number of landings the last two bytes, so that there are none, one, one less than
+// there are, one more, and 1,025; and a byte of the second landing's value.
+const ALTERED: &[&[(usize, u8)]] = &[
+    &[(117, 0x00)],
+    &[(117, 0x01)],
+    &[(117, 0x02)],
+    &[(117, 0x04)],
+    &[(116, 0x04), (117, 0x01)],
+    &[(324, 0x31)],
+];
+
+// Whether the whole file is damaged at its second record after these bytes are altered.
+fn is_damaged<H: Threads + Wait + Sync>(
+    rt: &H,
+    alloc: Global,
+    altered: &[(usize, u8)],
+) -> Result<bool, Fail> {
+    let files = Files {
+        a: changed_file(alloc, FILE, WHOLE, altered)?,
+        b: Vec::new(alloc),
+    };
+    let damaged = Status::Damaged {
+        side: Side::A,
+        offset: FIRST_LANDING,
+    };
+    is_opened(rt, alloc, &files, damaged, None)
+}
+
+#[test]
+fn what_is_no_group_is_damage(rt: HostRuntime) -> Result<(), Fail> {
+    let alloc = rt.alloc();
+    for altered in ALTERED {
+        assert!(rt; is_damaged(&rt, alloc, altered)?);
+    }
+    Ok(())
+}
