@@ -3,6 +3,7 @@ pub mod Items
 pub mod ChildPlaces
 pub mod PlainNodes
 pub mod PlainBytes
+pub mod SpelledParts
 pub mod Walks
 pub mod PathNames
 pub mod TopLaws

@@ -13,6 +13,7 @@ mod parts;
 mod plain_bytes;
 mod plain_node;
 mod sorted;
+mod spelled;
 mod top;
 mod wide;
 

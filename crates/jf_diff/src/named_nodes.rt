@@ -13,12 +13,15 @@ ghost use Rattle.jf_diff.specs.Plains.{plain_item, plain_under};
 
 use crate::plain_bytes::{plain_len, put_plain};
 use crate::plain_node::plain_if;
+use crate::spelled::put_wide;
 use jf_codec::{Format, name_len, put_name};
+use jf_join::Workers;
 use jf_node::Link;
 use jf_path::{Bytes, Children, FreshList, Memory, NodeName, PlainNode};
 use jf_payload::sum_within;
 use std::alloc::Global;
 use std::marker::Model;
+use std::thread::Threads;
 
 /// Nodes with their names. Each is the stored node of a snapshot, which is shared; the root of the empty map has none.
 /// They are seen as the nodes by themselves, as they are written.
@@ -68,7 +71,7 @@ fn copied_from(
 }
 
 /// The number of bytes of the nodes after their names.
-fn length_of(format: Format, nodes: &[(NodeName, Option<Link>)]) -> Result<u64, Memory>
+pub(crate) fn length_of(format: Format, nodes: &[(NodeName, Option<Link>)]) -> Result<u64, Memory>
     requires { AllByRecursion (λ x. IsNode format (in_format format x.1)) (map plain_item nodes.now) }
     ensures { IfOk result (λ n. n ≡ length (flat_map (fresh_bytes format) (map plain_item nodes.now))) }
 {
@@ -81,7 +84,7 @@ fn length_of(format: Format, nodes: &[(NodeName, Option<Link>)]) -> Result<u64, 
 }
 
 /// Adds the nodes after their names.
-fn put_each(
+pub(crate) fn put_each(
     alloc: Global,
     out: &mut Bytes,
     format: Format,
@@ -181,11 +184,18 @@ impl NamedNodes {
     }
 
     /// Adds each node after its name, as a file of this format has them. What the format keeps of each node must have a
-    /// spelling. If memory runs out, some of it may follow what was in `out`.
-    pub fn put(&self, alloc: Global, out: &mut Bytes, format: Format) -> Result<(), Memory>
+    /// spelling. At most `workers` threads work. If memory runs out, some of it may follow what was in `out`.
+    pub fn put<H: Threads + Sync>(
+        &self,
+        rt: &H,
+        alloc: Global,
+        out: &mut Bytes,
+        format: Format,
+        workers: Workers,
+    ) -> Result<(), Memory>
         requires { AllByRecursion (λ x. IsNode format (in_format format x.1)) self.now }
         ensures { OnOk result (out.new ≡ out.old ++ flat_map (fresh_bytes format) self.now) }
     {
-        put_each(alloc, out, format, &self.nodes)
+        put_wide(rt, alloc, out, format, &self.nodes, workers)
     }
 }

@@ -9,10 +9,12 @@ ghost use Rattle.jf_payload.specs.Spelling.{commit_bytes};
 use jf_codec::{Format, front_of, put_u64};
 use jf_diff::NamedNodes;
 use jf_hash::Hash;
+use jf_join::Workers;
 use jf_path::{Bytes, Memory, NameList, know_key};
 use jf_payload::{names_len, put_names, sum_within};
 use std::alloc::Global;
 use std::marker::Model;
+use std::thread::Threads;
 
 /// What a landing writes: a commit whose nodes are those of a snapshot, which are shared and not copied.
 #[derive(Drop)]
@@ -46,9 +48,17 @@ impl SharedCommit {
         sum_within(sum_within(56, fresh)?, stale)
     }
 
-    /// Adds its bytes in a file of this format. If memory runs out, some of them may follow what was in `out`.
+    /// Adds its bytes in a file of this format. At most `workers` threads work. If memory runs out, some of the bytes may
+    /// follow what was in `out`.
     #[tactic(auto, unfolding(jf_payload::specs::Spelling::commit_bytes))]
-    pub fn put(&self, alloc: Global, out: &mut Bytes, format: Format) -> Result<(), Memory>
+    pub fn put<H: Threads + Sync>(
+        &self,
+        rt: &H,
+        alloc: Global,
+        out: &mut Bytes,
+        format: Format,
+        workers: Workers,
+    ) -> Result<(), Memory>
         // What the format keeps of each node that the landing writes has a spelling.
         requires { AllByRecursion (λ x. IsNode format (in_format format x.1)) self.now.fresh }
         // After Ok, the bytes of the landing follow what was there.
@@ -57,27 +67,30 @@ impl SharedCommit {
         put_u64(out, self.version)?;
         out.append(&self.root)?;
         put_u64(out, self.fresh.len())?;
-        self.fresh.put(alloc, out, format)?;
+        self.fresh.put(rt, alloc, out, format, workers)?;
         put_u64(out, self.stale.len())?;
         put_names(out, self.stale.as_slice())
     }
 
-    /// The bytes after its own, if bytes begin with its own in a file of this format. Its own are put together beside them.
-    pub fn strip_from<'a>(
+    /// The bytes after its own, if bytes begin with its own in a file of this format; `None` if they don't; or `Memory`. Its
+    /// own are put together beside them, by at most `workers` threads.
+    pub fn strip_from<'a, H: Threads + Sync>(
         &self,
+        rt: &H,
         alloc: Global,
         bytes: &'a [u8],
         format: Format,
+        workers: Workers,
     ) -> Result<Option<&'a [u8]>, Memory>
         // What the format keeps of each node that the landing writes has a spelling.
         requires { AllByRecursion (λ x. IsNode format (in_format format x.1)) self.now.fresh }
         // After Ok with bytes, the bytes are those of the landing, and then these.
-        ensures some { IfOk result (λ o. IfSome o (λ rest. bytes.now ≡ commit_bytes format self.now ++ rest.now)) }
+        ensures found { IfOk result (λ o. IfSome o (λ rest. bytes.now ≡ commit_bytes format self.now ++ rest.now)) }
         // After Ok with none, the bytes don't begin with those of the landing.
-        ensures none { result ≡ Ok None → (tail : List ℕ) → bytes.now ≡ commit_bytes format self.now ++ tail → ⊥ }
+        ensures refused { result ≡ Ok None → (tail : List ℕ) → bytes.now ≡ commit_bytes format self.now ++ tail → ⊥ }
     {
         let mut own = Bytes::with_capacity(alloc, bytes.len() as u64)?;
-        self.put(alloc, &mut own, format)?;
+        self.put(rt, alloc, &mut own, format, workers)?;
         let own = own.as_slice();
         let Ok((front, rest)) = front_of(own.len(), bytes) else {
             return Ok(None);

@@ -159,7 +159,8 @@ impl<D: Disk> Engine<D> {
             take_back(&mut self.directory, &landings);
             return Err(LandFault::Differs(found));
         }
-        let Ok(()) = encode_landings(alloc, &mut self.frame, self.format, &landings) else {
+        let Ok(()) = encode_landings(rt, alloc, &mut self.frame, self.format, &landings, workers)
+        else {
             take_back(&mut self.directory, &landings);
             return Err(LandFault::Refused(EngineFault::Memory));
         };

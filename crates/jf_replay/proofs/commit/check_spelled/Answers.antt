@@ -31,14 +31,15 @@ strip_from-requires g c =
     let fresh : length c.in_ok-next.next.fresh < 2 ^ 64 = search rules in
     let stale : length c.in_ok-next.next.stale < 2 ^ 64 = search rules in
     let spelled = written-spelled c.args.format dir next keys c.in_ok-next.ensures.own known.map c.in_ok-next.ensures.room c.landings_are_spelled.ensures c.written_in_both.ensures known.short fresh stale in
-    subst (λ (l : Commit). AllByRecursion (λ x. IsNode c.args.format (in_format c.args.format x.1)) l.fresh) (sym c.landing-3.ensures)
-    (written-nodes c.args.format dir next keys c.in_ok-next.ensures.own known.map c.in_ok-next.ensures.room spelled)
+    let nodes = subst (λ (l : Commit). AllByRecursion (λ x. IsNode c.args.format (in_format c.args.format x.1)) l.fresh) (sym c.landing-3.ensures)
+    (written-nodes c.args.format dir next keys c.in_ok-next.ensures.own known.map c.in_ok-next.ensures.room spelled) in
+    (search rules, nodes)
 
 pub returns-in_default-clause-unsound : goal.returns-in_default-clause-unsound
 returns-in_default-clause-unsound g c = λ is d tail spelled e goes after.
     let dir = c.args.directory.now in
     let same = sound-bytes c.kept_is_spelled.ensures c.args.format dir c.in_ok-next.next c.know.ensures.sound c.know.ensures.read.keys d spelled goes after (c.in_ok-next.ensures.landing d tail spelled e) in
-    c.in_ok-rest.ensures.none (ap (λ o. Ok o) c.in_default.is) tail (e ∙ ap (λ (b : List ℕ). b ++ tail) (same ∙ ap (commit_bytes c.args.format) (sym c.landing-3.ensures)))
+    c.in_ok-rest.ensures.refused (ap (λ o. Ok o) c.in_default.is) tail (e ∙ ap (λ (b : List ℕ). b ++ tail) (same ∙ ap (commit_bytes c.args.format) (sym c.landing-3.ensures)))
 
 pub returns-clause-taken : goal.returns-clause-taken
 returns-clause-taken g c =
@@ -51,7 +52,7 @@ returns-clause-taken g c =
     let stale : length c.in_ok-next.next.stale < 2 ^ 64 = search rules in
     let spelled = written-spelled fmt dir next keys c.in_ok-next.ensures.own known.map c.in_ok-next.ensures.room c.landings_are_spelled.ensures c.written_in_both.ensures known.short fresh stale in
     let rest = c.in-Some.rest.now in
-    let there = subst (λ (o : Option (Bor (List ℕ))). IfSome o (λ r. c.args.bytes.now ≡ commit_bytes fmt c.landing-3.result.now ++ r.now)) c.in-Some.is c.in_ok-rest.ensures.some in
+    let there = subst (λ (o : Option (Bor (List ℕ))). IfSome o (λ r. c.args.bytes.now ≡ commit_bytes fmt c.landing-3.result.now ++ r.now)) c.in-Some.is c.in_ok-rest.ensures.found in
     let same : c.args.bytes.now ≡ commit_bytes fmt (landing_written next) ++ rest = there ∙ ap (λ (l : Commit). commit_bytes fmt l ++ rest) c.landing-3.ensures in
     let landed = c.in_ok-apply_landing.ensures.ok ∙ ap (λ (x : SnapshotValue). landed_on format.Two x.map dir) c.into_parts-landing.ensures.snapshot in
     subst (λ (t : Standing). IsTakenAs fmt (standing_in fmt dir) c.args.bytes.now rest (standing_in fmt t)) (sym landed)
