@@ -3,7 +3,6 @@ pub mod Items
 pub mod ChildPlaces
 pub mod PlainNodes
 pub mod PlainBytes
-pub mod SpelledParts
 pub mod Walks
 pub mod PathNames
 pub mod TopLaws
@@ -12,3 +11,4 @@ pub mod PartLaws
 pub mod GoneLaws
 pub mod Fronts
 pub mod ChangedLaws
+pub mod PartBytes

@@ -22,3 +22,4 @@ pub use Rattle.jf_node.specs.LinkValue
 pub use Rattle.jf_node.specs.Shown
 pub use Rattle.jf_node.specs.SnapshotValue
 pub use Rattle.jf_node.specs.Snapshots
+pub mod Spelled

@@ -7,6 +7,7 @@ ghost use Rattle.jf_diff.specs.Landings.{IsNextOf, IsFreshCount, written_nodes, 
 
 use crate::changed::are_several;
 use crate::lists::Written;
+use crate::named_nodes::NamedNodes;
 use crate::top::{fresh_of, stale_of};
 use crate::wide::written_wide;
 use jf_join::{Gate, Workers};
@@ -23,7 +24,8 @@ fn written_in_turn(alloc: Global, old: &Snapshot, new: &Snapshot) -> Result<Writ
     ensures bounded { IfOk result (λ w. IsFreshCount old.now new.now (length w.fresh)) }
 {
     old.know();
-    let fresh = fresh_of(alloc, new.top(), new.version())?;
+    let nodes = fresh_of(alloc, new.top(), new.version())?;
+    let fresh = NamedNodes::of(alloc, &nodes)?;
     let stale = stale_of(alloc, old.top(), old.version(), new.top(), new.version())?;
     Ok(Written { fresh, stale })
 }

@@ -9,7 +9,7 @@ ghost use Rattle.jf_diff.specs.OptionalNodes.{IsAtDepth, IsOfVersion};
 ghost use Rattle.jf_diff.specs.Plains.{fresh_below};
 
 use crate::child::{child_in, child_of, is_kept};
-use crate::named_nodes::NamedNodes;
+use crate::shared_nodes::SharedNodes;
 use jf_node::Link;
 use jf_path::{Memory, Nibble, NibblePath, NodeName};
 
@@ -20,7 +20,7 @@ pub(crate) fn list_fresh(
     link: &Link,
     version: u64,
     path: &NibblePath,
-    out: &mut NamedNodes,
+    out: &mut SharedNodes,
 ) -> Result<(), Memory>
     requires path { length path.now ≡ link.now.depth }
     requires own { link.now.version ≡ version }
@@ -48,7 +48,7 @@ pub(crate) fn list_fresh_at(
     version: u64,
     path: &NibblePath,
     n: Nibble,
-    out: &mut NamedNodes,
+    out: &mut SharedNodes,
 ) -> Result<(), Memory>
     requires path { length path.now ≡ link.now.depth }
     ensures { OnOk result ((es : Part) (before : Path → Option ℕ) → IsFreshBelow version es before link.now → out.new ≡ out.old ++ listed_below link.now.depth n es link.now.entries (fresh_below version path.now link.now)) }

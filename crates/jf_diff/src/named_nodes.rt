@@ -1,201 +1,207 @@
-// Nodes with their names, as a snapshot has them: each is shared and none is copied, so that a list of all that a landing
-// writes takes little memory.
-ghost use Rattle.std.specs.Prelude.{◌≡◌, ◌<◌, ◌++◌, ◌∷◌, [], flat_map, length, map, slice_index_or, IsTrue, IfOk, OnOk, OnErr};
+// The nodes that a landing writes, with their names: the bytes of each part of it, as they were put together by who listed
+// the part.
+ghost use Rattle.std.specs.Prelude.{◌≡◌, ◌++◌, ℕ, List, flat_map, length, map, IfOk, IfSome, IsTrue, OnOk, Ok, None};
 ghost use Rattle.std.specs.List.{AllByRecursion};
-ghost use Rattle.std.specs.Option.{option_copied};
 ghost use Rattle.jf_path.specs.Names.{are_rising};
-ghost use Rattle.jf_path.specs.declared.name.NodeName.{NodeName};
-ghost use Rattle.jf_path.specs.declared.node.PlainNode.{PlainNode};
+ghost use Rattle.jf_codec.specs.declared.format.Format.TheVariants as format;
 ghost use Rattle.jf_codec.specs.Spelling.{IsNode};
 ghost use Rattle.jf_codec.specs.Counted.{in_format};
 ghost use Rattle.jf_payload.specs.Spelling.{fresh_bytes};
-ghost use Rattle.jf_diff.specs.Plains.{plain_item, plain_under};
+ghost use Rattle.jf_diff.specs.Spelled.{all_parts};
 
-use crate::plain_bytes::{plain_len, put_plain};
-use crate::plain_node::plain_if;
-use crate::spelled::put_wide;
-use jf_codec::{Format, name_len, put_name};
-use jf_join::Workers;
-use jf_node::Link;
-use jf_path::{Bytes, Children, FreshList, Memory, NodeName, PlainNode};
+use crate::front::strip_front;
+use crate::shared_nodes::SharedNodes;
+use crate::spelled_nodes::SpelledNodes;
+use jf_codec::{Format, name_len, node_len, put_name, put_node};
+use jf_path::{Bytes, FreshList, Memory, NodeName, PlainNode};
 use jf_payload::sum_within;
 use std::alloc::Global;
 use std::marker::Model;
-use std::thread::Threads;
 
-/// Nodes with their names. Each is the stored node of a snapshot, which is shared; the root of the empty map has none.
-/// They are seen as the nodes by themselves, as they are written.
+/// The nodes that a landing writes, with their names. They are kept as the bytes that a file of format 2 has of them, and seen
+/// as the nodes by themselves.
 #[derive(Drop)]
 pub struct NamedNodes {
-    nodes: Vec<(NodeName, Option<Link>)>,
+    count: u64,
+    parts: Vec<SpelledNodes>,
 }
 
 impl Model for NamedNodes {
-    ghost use Rattle.std.specs.Prelude.{List, map};
+    ghost use Rattle.std.specs.Prelude.{◌≡◌, List, length};
     ghost use Rattle.jf_path.specs.declared.name.NodeName.{NodeName};
     ghost use Rattle.jf_path.specs.declared.node.PlainNode.{PlainNode};
 
     ghost Value = { List (NodeName × PlainNode) };
 
-    ghost use Rattle.jf_diff.specs.Plains.{plain_item};
+    ghost use Rattle.jf_diff.specs.Spelled.{all_parts};
 
-    ghost view = { λ l. map plain_item l.nodes.items };
+    ghost view = { λ l. all_parts l.parts.items };
+
+    ghost invariant = { λ l. l.count ≡ length (all_parts l.parts.items) };
 }
 
-/// The link to the node again, which is shared.
-fn share_if(link: Option<&Link>) -> Result<Option<Link>, Memory>
-    ensures { IfOk result (λ x. x ≡ option_copied link.entry) }
-{
-    match link {
-        None => Ok(None),
-        Some(link) => {
-            let link = link.share()?;
-            Ok(Some(link))
-        }
-    }
-}
-
-/// The nodes as they are written.
-fn copied_from(
-    alloc: Global,
-    nodes: &[(NodeName, Option<Link>)],
-) -> Result<Vec<(NodeName, PlainNode)>, Memory>
-    ensures { IfOk result (λ v. v.items ≡ map plain_item nodes.now) }
-{
-    let mut copies = Vec::with_capacity(alloc, nodes.len())?;
-    for item in nodes {
-        let node = plain_if(alloc, &item.1)?;
-        copies.push((item.0, node))?;
-    }
-    Ok(copies)
-}
-
-/// The number of bytes of the nodes after their names.
-pub(crate) fn length_of(format: Format, nodes: &[(NodeName, Option<Link>)]) -> Result<u64, Memory>
-    requires { AllByRecursion (λ x. IsNode format (in_format format x.1)) (map plain_item nodes.now) }
-    ensures { IfOk result (λ n. n ≡ length (flat_map (fresh_bytes format) (map plain_item nodes.now))) }
+/// The number of bytes of nodes after their names.
+fn length_of(format: Format, nodes: &[(NodeName, PlainNode)]) -> Result<u64, Memory>
+    requires { AllByRecursion (λ x. IsNode format (in_format format x.1)) nodes.now }
+    ensures { IfOk result (λ n. n ≡ length (flat_map (fresh_bytes format) nodes.now)) }
 {
     let mut length = 0;
     for item in nodes {
         length = sum_within(length, name_len(&item.0))?;
-        length = sum_within(length, plain_len(format, &item.1))?;
+        length = sum_within(length, node_len(format, &item.1))?;
     }
     Ok(length)
 }
 
-/// Adds the nodes after their names.
-pub(crate) fn put_each(
-    alloc: Global,
-    out: &mut Bytes,
-    format: Format,
-    nodes: &[(NodeName, Option<Link>)],
-) -> Result<(), Memory>
-    requires { AllByRecursion (λ x. IsNode format (in_format format x.1)) (map plain_item nodes.now) }
-    ensures { OnOk result (out.new ≡ out.old ++ flat_map (fresh_bytes format) (map plain_item nodes.now)) }
+/// Adds nodes after their names. If memory runs out, some of it may follow what was in `out`.
+fn put_each(out: &mut Bytes, format: Format, nodes: &[(NodeName, PlainNode)]) -> Result<(), Memory>
+    requires { AllByRecursion (λ x. IsNode format (in_format format x.1)) nodes.now }
+    ensures { OnOk result (out.new ≡ out.old ++ flat_map (fresh_bytes format) nodes.now) }
 {
-    let mut list = Children::with_capacity(alloc, 16)?;
     for item in nodes {
         put_name(out, &item.0)?;
-        put_plain(out, format, &item.1, &mut list)?;
+        put_node(out, format, &item.1)?;
+    }
+    Ok(())
+}
+
+/// The number of bytes of parts.
+fn length_of_parts(parts: &[SpelledNodes]) -> Result<u64, Memory>
+    ensures { IfOk result (λ n. n ≡ length (flat_map (fresh_bytes format.Two) (all_parts parts.now))) }
+{
+    let mut length = 0;
+    for part in parts {
+        length = sum_within(length, part.as_slice().len() as u64)?;
+    }
+    Ok(length)
+}
+
+/// Adds the bytes of parts. If memory runs out, those of some may follow what was in `out`.
+fn put_parts(out: &mut Bytes, parts: &[SpelledNodes]) -> Result<(), Memory>
+    ensures { OnOk result (out.new ≡ out.old ++ flat_map (fresh_bytes format.Two) (all_parts parts.now)) }
+{
+    for part in parts {
+        out.append(part.as_slice())?;
+    }
+    Ok(())
+}
+
+/// The bytes after those of parts, if bytes begin with these.
+fn strip_parts<'a>(bytes: &'a [u8], parts: &[SpelledNodes]) -> Option<&'a [u8]>
+    ensures found { IfSome result (λ rest. bytes.now ≡ flat_map (fresh_bytes format.Two) (all_parts parts.now) ++ rest.now) }
+    ensures refused { result ≡ None → (tail : List ℕ) → bytes.now ≡ flat_map (fresh_bytes format.Two) (all_parts parts.now) ++ tail → ⊥ }
+{
+    let mut rest = bytes;
+    for part in parts {
+        rest = strip_front(rest, part.as_slice())?;
+    }
+    Some(rest)
+}
+
+/// Adds the nodes of parts to a list.
+fn copy_parts(
+    alloc: Global,
+    out: &mut Vec<(NodeName, PlainNode)>,
+    parts: &[SpelledNodes],
+) -> Result<(), Memory>
+    ensures { OnOk result (out.new.items ≡ out.old.items ++ all_parts parts.now) }
+{
+    for part in parts {
+        part.copy_into(alloc, out)?;
     }
     Ok(())
 }
 
 impl NamedNodes {
-    /// An empty list.
-    pub fn new(alloc: Global) -> NamedNodes
-        ensures { result ≡ [] }
+    /// Nodes that are listed, as their bytes.
+    pub(crate) fn of(alloc: Global, nodes: &SharedNodes) -> Result<NamedNodes, Memory>
+        ensures { IfOk result (λ l. l ≡ nodes.now) }
     {
-        NamedNodes {
-            nodes: Vec::new(alloc),
-        }
+        let part = SpelledNodes::of(alloc, nodes)?;
+        let count = part.len();
+        let mut parts = Vec::with_capacity(alloc, 1)?;
+        parts.push(part)?;
+        Ok(NamedNodes { count, parts })
     }
 
     /// The number of nodes.
     pub fn len(&self) -> u64
         ensures { result ≡ length self.now }
     {
-        self.nodes.len() as u64
-    }
-
-    /// Takes room for `more` nodes, and no more. The list is unchanged, even if memory runs out.
-    pub fn reserve(&mut self, more: usize) -> Result<(), Memory>
-        ensures { self.new ≡ self.old }
-    {
-        self.nodes.reserve_exact(more)?;
-        Ok(())
-    }
-
-    /// Adds a node, which is shared, at the end. If memory runs out, the list is unchanged.
-    pub fn push(&mut self, name: NodeName, link: Option<&Link>) -> Result<(), Memory>
-        ensures ok { OnOk result (self.new ≡ self.old ++ (name, plain_under (option_copied link.entry) []) ∷ []) }
-        ensures err { OnErr result (self.new ≡ self.old) }
-    {
-        let link = share_if(link)?;
-        self.nodes.push((name, link))?;
-        Ok(())
+        self.count
     }
 
     /// Adds the nodes of another list at the end.
-    pub fn append(&mut self, other: NamedNodes) -> Result<(), Memory>
+    pub(crate) fn append(&mut self, other: NamedNodes) -> Result<(), Memory>
         ensures { OnOk result (self.new ≡ self.old ++ other) }
     {
-        let NamedNodes { mut nodes } = other;
-        self.nodes.append(&mut nodes)?;
+        let NamedNodes { count, mut parts } = other;
+        let count = sum_within(self.count, count)?;
+        self.parts.append(&mut parts)?;
+        self.count = count;
         Ok(())
     }
 
-    /// The node at a place with its name, as it is shared.
-    pub fn item(&self, place: usize) -> &(NodeName, Option<Link>)
-        // There is a node at the place.
-        requires { place < length self.now }
-        // The node at the place is that of the result, as it is written.
-        ensures { (x : NodeName × PlainNode) → slice_index_or self.now place x ≡ plain_item result.now }
+    /// The nodes with their names, by themselves. They are read from the bytes.
+    pub fn plain_nodes(&self, alloc: Global) -> Result<Vec<(NodeName, PlainNode)>, Memory>
+        ensures { IfOk result (λ v. v.items ≡ self.now) }
     {
-        &self.nodes[place]
+        let mut nodes = Vec::with_capacity(alloc, self.count as usize)?;
+        copy_parts(alloc, &mut nodes, &self.parts)?;
+        Ok(nodes)
     }
 
-    /// The node at a place with its name, as it is written.
-    pub fn get(&self, alloc: Global, place: usize) -> Result<(NodeName, PlainNode), Memory>
-        requires { place < length self.now }
-        ensures { IfOk result (λ x. slice_index_or self.now place x ≡ x) }
-    {
-        let item = &self.nodes[place];
-        let node = plain_if(alloc, &item.1)?;
-        Ok((item.0, node))
-    }
-
-    /// A copy of the nodes, as they are written. Their names must rise.
+    /// As `plain_nodes`, as a list whose names rise, which they must.
     pub fn copy(&self, alloc: Global) -> Result<FreshList, Memory>
         requires { IsTrue (are_rising (map (λ x. x.0) self.now)) }
         ensures { IfOk result (λ l. l ≡ self.now) }
     {
-        let nodes = copied_from(alloc, &self.nodes)?;
+        let nodes = self.plain_nodes(alloc)?;
         Ok(FreshList::of(nodes))
     }
 
     /// The number of bytes that the nodes take after their names in a file of this format. `Memory` if it is above what
     /// a number holds. What the format keeps of each node must have a spelling.
-    pub fn bytes_len(&self, format: Format) -> Result<u64, Memory>
+    pub fn bytes_len(&self, alloc: Global, format: Format) -> Result<u64, Memory>
         requires { AllByRecursion (λ x. IsNode format (in_format format x.1)) self.now }
         ensures { IfOk result (λ n. n ≡ length (flat_map (fresh_bytes format) self.now)) }
     {
-        length_of(format, &self.nodes)
+        match format {
+            Format::One => length_of(format, &self.plain_nodes(alloc)?),
+            Format::Two => length_of_parts(&self.parts),
+        }
     }
 
     /// Adds each node after its name, as a file of this format has them. What the format keeps of each node must have a
-    /// spelling. At most `workers` threads work. If memory runs out, some of it may follow what was in `out`.
-    pub fn put<H: Threads + Sync>(
-        &self,
-        rt: &H,
-        alloc: Global,
-        out: &mut Bytes,
-        format: Format,
-        workers: Workers,
-    ) -> Result<(), Memory>
+    /// spelling. For format 1 the nodes are read back first. If memory runs out, some of it may follow what was in `out`.
+    pub fn put(&self, alloc: Global, out: &mut Bytes, format: Format) -> Result<(), Memory>
         requires { AllByRecursion (λ x. IsNode format (in_format format x.1)) self.now }
         ensures { OnOk result (out.new ≡ out.old ++ flat_map (fresh_bytes format) self.now) }
     {
-        put_wide(rt, alloc, out, format, &self.nodes, workers)
+        match format {
+            Format::One => put_each(out, format, &self.plain_nodes(alloc)?),
+            Format::Two => put_parts(out, &self.parts),
+        }
+    }
+
+    /// The bytes after those that `put` would add, if bytes begin with these; `None` if they don't; or `Memory`.
+    pub fn strip_from<'a>(
+        &self,
+        alloc: Global,
+        bytes: &'a [u8],
+        format: Format,
+    ) -> Result<Option<&'a [u8]>, Memory>
+        requires { AllByRecursion (λ x. IsNode format (in_format format x.1)) self.now }
+        ensures found { IfOk result (λ o. IfSome o (λ rest. bytes.now ≡ flat_map (fresh_bytes format) self.now ++ rest.now)) }
+        ensures refused { result ≡ Ok None → (tail : List ℕ) → bytes.now ≡ flat_map (fresh_bytes format) self.now ++ tail → ⊥ }
+    {
+        match format {
+            Format::One => {
+                let mut own = Bytes::new(alloc);
+                self.put(alloc, &mut own, format)?;
+                Ok(strip_front(bytes, own.as_slice()))
+            }
+            Format::Two => Ok(strip_parts(bytes, &self.parts)),
+        }
     }
 }

@@ -13,6 +13,7 @@ ghost use Rattle.jf_diff.specs.Tops.{IsFreshUnder, IsStaleUnder, old_name};
 
 use crate::list::{list_fresh_at, list_stale_at};
 use crate::named_nodes::NamedNodes;
+use crate::shared_nodes::SharedNodes;
 use crate::top::top_name;
 use jf_node::Link;
 use jf_path::{Memory, Nibble, NibblePath, NodeName};
@@ -48,8 +49,9 @@ pub(crate) fn top_lists(
 ) -> Result<PartLists, Memory>
     ensures { IfOk result (AreTopLists version head (option_copied old.entry) (option_copied top.entry)) }
 {
-    let mut fresh = NamedNodes::new(alloc);
-    fresh.push(top_name(version), top)?;
+    let mut nodes = SharedNodes::new(alloc);
+    nodes.push(top_name(version), top)?;
+    let fresh = NamedNodes::of(alloc, &nodes)?;
     let mut stale = Vec::new(alloc);
     stale.push(old_top_name(head, old))?;
     Ok(PartLists { fresh, stale })
@@ -61,11 +63,11 @@ fn fresh_from(
     top: Option<&Link>,
     version: u64,
     n: Nibble,
-) -> Result<NamedNodes, Memory>
+) -> Result<SharedNodes, Memory>
     requires top { IsAtDepth 0 (option_copied top) }
     ensures { IfOk result (λ v. (es : Part) (before : Path → Option ℕ) → IsFreshUnder version es before (option_copied top.entry) → v ≡ listed_below 0 n es (content (option_copied top.entry)) (fresh_under version (option_copied top.entry))) }
 {
-    let mut nodes = NamedNodes::new(alloc);
+    let mut nodes = SharedNodes::new(alloc);
     match top {
         None => Ok(nodes),
         Some(link) => {
@@ -97,7 +99,7 @@ fn stale_from(
     }
 }
 
-/// What is listed from the children at nibble `n` down.
+/// What is listed from the children at nibble `n` down. The nodes are spelled as soon as they are listed.
 pub(crate) fn part_lists(
     alloc: Global,
     old: Option<&Link>,
@@ -109,7 +111,8 @@ pub(crate) fn part_lists(
     requires top { IsAtDepth 0 (option_copied top) }
     ensures { IfOk result (ArePartLists version (option_copied old.entry) (option_copied top.entry) n) }
 {
-    let fresh = fresh_from(alloc, top, version, n)?;
+    let nodes = fresh_from(alloc, top, version, n)?;
+    let fresh = NamedNodes::of(alloc, &nodes)?;
     let stale = stale_from(alloc, old, top, version, n)?;
     Ok(PartLists { fresh, stale })
 }

@@ -1,59 +1,42 @@
-// The bytes of a node by itself, and how many they are, without a copy of its value; what it says of its children is put
-// together in a list that serves one node after another.
-ghost use Rattle.std.specs.Prelude.{◌≡◌, ◌≤◌, ◌++◌, [], length, OnOk};
+// The bytes of a node by itself in a file of format 2, and about how many they are, without a copy of its value; what it says
+// of its children is put together in a list that serves one node after another.
+ghost use Rattle.std.specs.Prelude.{◌≡◌, ◌++◌, [], OnOk};
+ghost use Rattle.jf_codec.specs.declared.format.Format.TheVariants as format;
 ghost use Rattle.jf_codec.specs.Spelling.{IsNode, node_bytes};
-ghost use Rattle.jf_codec.specs.Counted.{in_format};
-ghost use Rattle.jf_diff.specs.Plains.{children_list, plain_at, plain_under};
+ghost use Rattle.jf_diff.specs.Plains.{plain_at, plain_under};
 
-use crate::plain_node::{branches_of, children_into};
+use crate::known::know_versions;
+use crate::plain_node::children_into;
 use jf_codec::{Format, inner_len, put_inner, put_leaf, put_node};
 use jf_hash::Places;
 use jf_node::{Link, Seen};
 use jf_path::{Bytes, Children, Memory, PlainNode};
 
-/// The number of children of an inner node.
-fn count_of_children(link: &Link) -> u32
-    requires { 2 ≤ length link.now.entries }
-    ensures { result ≡ length (children_list link.now) }
-{
-    let children = branches_of(link);
-    children.know();
-    children.children().rank(16) as u32
-}
-
-/// The number of bytes of a node by itself.
-fn link_len(format: Format, link: &Link) -> u64
-    requires { IsNode format (in_format format (plain_at link.now [])) }
-    ensures { result ≡ length (node_bytes format (plain_at link.now [])) }
-{
+/// Room for the bytes of the node of an optional link by itself: as much as they take.
+pub(crate) fn room_of(link: &Option<Link>) -> u64 {
+    let Some(link) = link else {
+        return 1;
+    };
     match link.view() {
         Seen::Leaf { value, .. } => 37 + value.len() as u64,
-        Seen::Inner { .. } => inner_len(format, count_of_children(link)),
-    }
-}
-
-/// The number of bytes of the node of an optional link by itself.
-pub(crate) fn plain_len(format: Format, link: &Option<Link>) -> u64
-    requires { IsNode format (in_format format (plain_under link.now [])) }
-    ensures { result ≡ length (node_bytes format (plain_under link.now [])) }
-{
-    match link {
-        None => 1,
-        Some(link) => link_len(format, link),
+        Seen::Inner { children } => inner_len(Format::Two, children.children().rank(16) as u32),
     }
 }
 
 /// Adds the bytes of a node by itself; `list` may have anything. If memory runs out, some of the bytes may follow what was
 /// in `out`.
-fn put_link(out: &mut Bytes, format: Format, link: &Link, list: &mut Children) -> Result<(), Memory>
-    requires { IsNode format (in_format format (plain_at link.now [])) }
-    ensures { OnOk result (out.new ≡ out.old ++ node_bytes format (plain_at link.now [])) }
+fn put_link(out: &mut Bytes, link: &Link, list: &mut Children) -> Result<(), Memory>
+    ensures valid { OnOk result (IsNode format.Two (plain_at link.now [])) }
+    ensures bytes { OnOk result (out.new ≡ out.old ++ node_bytes format.Two (plain_at link.now [])) }
 {
+    link.know();
     match link.view() {
         Seen::Leaf { key, value, .. } => put_leaf(out, key, value),
         Seen::Inner { .. } => {
             children_into(link, list)?;
-            put_inner(out, format, list.as_slice())
+            let children = list.as_slice();
+            know_versions(children);
+            put_inner(out, Format::Two, children)
         }
     }
 }
@@ -62,15 +45,14 @@ fn put_link(out: &mut Bytes, format: Format, link: &Link, list: &mut Children) -
 /// may follow what was in `out`.
 pub(crate) fn put_plain(
     out: &mut Bytes,
-    format: Format,
     link: &Option<Link>,
     list: &mut Children,
 ) -> Result<(), Memory>
-    requires { IsNode format (in_format format (plain_under link.now [])) }
-    ensures { OnOk result (out.new ≡ out.old ++ node_bytes format (plain_under link.now [])) }
+    ensures valid { OnOk result (IsNode format.Two (plain_under link.now [])) }
+    ensures bytes { OnOk result (out.new ≡ out.old ++ node_bytes format.Two (plain_under link.now [])) }
 {
     match link {
-        None => put_node(out, format, &PlainNode::Null),
-        Some(link) => put_link(out, format, link, list),
+        None => put_node(out, Format::Two, &PlainNode::Null),
+        Some(link) => put_link(out, link, list),
     }
 }

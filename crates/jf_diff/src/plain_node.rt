@@ -1,7 +1,7 @@
 // Nodes by themselves, as they are written: without the children that they share.
 ghost use Rattle.std.specs.Prelude.{◌≡◌, ◌≤◌, [], length, IfOk, OnOk};
 ghost use Rattle.jf_node.specs.Shown.{ShowsInner};
-ghost use Rattle.jf_diff.specs.Plains.{plain_at, plain_under, children_list};
+ghost use Rattle.jf_diff.specs.Plains.{plain_at, children_list};
 
 use jf_hash::Places;
 use jf_node::{Branches, Link, Seen};
@@ -21,7 +21,7 @@ pub(crate) fn branches_of(link: &Link) -> &Branches
 
 /// Makes a list what an inner node says of its children, as it is written, in place of what is there. If memory runs out, the
 /// list has some of them.
-pub fn children_into(link: &Link, list: &mut Children) -> Result<(), Memory>
+pub(crate) fn children_into(link: &Link, list: &mut Children) -> Result<(), Memory>
     // The link is to an inner node.
     requires { 2 ≤ length link.now.entries }
     // After Ok, the list is what the node says of its children.
@@ -71,15 +71,5 @@ pub fn plain_of(alloc: Global, link: &Link) -> Result<PlainNode, Memory>
             let children = children_of(alloc, link)?;
             Ok(PlainNode::Inner { children })
         }
-    }
-}
-
-/// The node of an optional link by itself, as it is written: the root of the empty map if there is no link.
-pub(crate) fn plain_if(alloc: Global, link: &Option<Link>) -> Result<PlainNode, Memory>
-    ensures { IfOk result (λ r. r ≡ plain_under link.now []) }
-{
-    match link {
-        None => Ok(PlainNode::Null),
-        Some(link) => plain_of(alloc, link),
     }
 }

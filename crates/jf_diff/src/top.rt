@@ -13,7 +13,7 @@ ghost use Rattle.jf_diff.specs.Plains.{fresh_under, plain_under};
 ghost use Rattle.jf_diff.specs.Tops.{IsFreshUnder, IsStaleUnder, old_name};
 
 use crate::list::{list_fresh, list_stale};
-use crate::named_nodes::NamedNodes;
+use crate::shared_nodes::SharedNodes;
 use crate::sorted::sorted_names;
 use jf_node::Link;
 use jf_path::{Memory, NameList, NibblePath, NodeName};
@@ -40,10 +40,10 @@ fn one_name(alloc: Global, name: NodeName) -> Result<NameList, Memory>
 }
 
 /// A list of one node.
-fn one_node(alloc: Global, name: NodeName, link: Option<&Link>) -> Result<NamedNodes, Memory>
+fn one_node(alloc: Global, name: NodeName, link: Option<&Link>) -> Result<SharedNodes, Memory>
     ensures { IfOk result (λ l. l ≡ (name, plain_under (option_copied link.entry) []) ∷ []) }
 {
-    let mut nodes = NamedNodes::new(alloc);
+    let mut nodes = SharedNodes::new(alloc);
     nodes.push(name, link)?;
     Ok(nodes)
 }
@@ -53,7 +53,7 @@ pub(crate) fn fresh_of(
     alloc: Global,
     top: Option<&Link>,
     version: u64,
-) -> Result<NamedNodes, Memory>
+) -> Result<SharedNodes, Memory>
     requires top { IsAtDepth 0 (option_copied top) }
     requires own { IsOfVersion version (option_copied top) }
     ensures { IfOk result (λ l. (es : Part) (before : Path → Option ℕ) → IsFreshUnder version es before (option_copied top.entry) → l ≡ with_root es (content (option_copied top.entry)) (fresh_under version (option_copied top.entry))) }
@@ -62,7 +62,7 @@ pub(crate) fn fresh_of(
         None => one_node(alloc, top_name(version), None),
         Some(link) => {
             link.know();
-            let mut nodes = NamedNodes::new(alloc);
+            let mut nodes = SharedNodes::new(alloc);
             list_fresh(link, version, &NibblePath::empty(), &mut nodes)?;
             Ok(nodes)
         }

@@ -34,21 +34,17 @@ fn nibbles(alloc: Global) -> Result<Vec<Nibble>, Memory>
     Ok(all)
 }
 
-/// Takes room for the lists of all parts at once, so that what is appended isn't copied again. The two lists stay as they
-/// are.
+/// Takes room for the names of all parts at once, so that what is appended isn't copied again. The lists are unchanged.
 fn take_room(all: &mut PartLists, parts: &[Result<PartLists, Memory>]) -> Result<(), Memory>
     ensures fresh { all.new.fresh ≡ all.old.fresh }
     ensures stale { all.new.stale.items ≡ all.old.stale.items }
 {
-    let mut fresh: usize = 0;
     let mut stale: usize = 0;
     for part in parts {
         if let Ok(part) = part {
-            fresh = fresh.saturating_add(part.fresh.len() as usize);
             stale = stale.saturating_add(part.stale.len());
         }
     }
-    all.fresh.reserve(fresh)?;
     all.stale.reserve_exact(stale)?;
     Ok(())
 }

@@ -25,7 +25,7 @@ use crate::front::drop_front;
 use crate::listing::nodes_in_order;
 use crate::next_version::NextVersion;
 use crate::roots::{know_hashes, roots_with};
-use crate::shared_commit::SharedCommit;
+use crate::spelled_commit::SpelledCommit;
 use crate::stale_counts::count_left;
 use jf_hash::Hash;
 use jf_join::{Gate, Workers};
@@ -209,7 +209,7 @@ impl Directory {
         let Written { fresh, stale } = landing_lists(rt, alloc, head, &snapshot, workers, gate)?;
         // Ensures that the names rise.
         let _ = stale.as_slice();
-        let landing = SharedCommit {
+        let landing = SpelledCommit {
             version: snapshot.version(),
             root: snapshot.root(),
             fresh,
@@ -254,7 +254,7 @@ impl Directory {
         let next = self.next_of(rt, alloc, batch, workers, gate)?;
         let (landing, snapshot) = next.into_parts();
         snapshot.know();
-        let SharedCommit {
+        let SpelledCommit {
             root,
             fresh,
             stale,
@@ -289,7 +289,7 @@ impl Directory {
     /// directory is unchanged, and the snapshot is dropped.
     pub fn apply_landing(
         &mut self,
-        landing: &SharedCommit,
+        landing: &SpelledCommit,
         snapshot: Snapshot,
     ) -> Result<(), Memory>
         requires bounded { self.old.head + 1 < not_stale }
@@ -347,7 +347,7 @@ impl Directory {
     }
 
     /// Takes back the landing that made the head, given as what it writes. It takes no memory.
-    pub fn undo_landing(&mut self, landing: &SharedCommit)
+    pub fn undo_landing(&mut self, landing: &SpelledCommit)
         requires made { (s : Standing) × (m : Map) × IsReadStanding s × IsSound format.Two s × IsMap m × (landing.now ≡ landing_of format.Two s m) × (self.old ≡ landed_on format.Two m s) }
         ensures { (s : Standing) (m : Map) → IsReadStanding s → IsSound format.Two s → IsMap m → landing.now ≡ landing_of format.Two s m → self.old ≡ landed_on format.Two m s → self.new ≡ s }
     {

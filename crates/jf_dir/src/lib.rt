@@ -8,10 +8,10 @@ mod listing;
 mod next_version;
 mod restoring;
 mod roots;
-mod shared_commit;
+mod spelled_commit;
 mod stale_counts;
 
 pub use directory::Directory;
 pub use next_version::NextVersion;
 pub use restoring::restored_from;
-pub use shared_commit::SharedCommit;
+pub use spelled_commit::SpelledCommit;

@@ -2,14 +2,14 @@
 ghost use Rattle.std.specs.Prelude.{◌≡◌};
 ghost use Rattle.jf_dir.specs.Directories.{landing_written};
 
-use crate::shared_commit::SharedCommit;
+use crate::spelled_commit::SpelledCommit;
 use jf_node::Snapshot;
 use std::marker::Model;
 
 /// The next version before it is taken: what its landing writes, and its snapshot.
 #[derive(Drop)]
 pub struct NextVersion {
-    landing: SharedCommit,
+    landing: SpelledCommit,
     snapshot: Snapshot,
 }
 
@@ -30,7 +30,7 @@ impl Model for NextVersion {
 
 impl NextVersion {
     /// The next version of what its landing writes and its snapshot, which have one version.
-    pub(crate) fn of(landing: SharedCommit, snapshot: Snapshot) -> NextVersion
+    pub(crate) fn of(landing: SpelledCommit, snapshot: Snapshot) -> NextVersion
         requires { landing.version ≡ snapshot.version }
         ensures { result ≡ record { root = landing.root; fresh = landing.fresh; stale = landing.stale; snapshot = snapshot } }
     {
@@ -38,7 +38,7 @@ impl NextVersion {
     }
 
     /// What its landing writes.
-    pub fn landing(&self) -> &SharedCommit
+    pub fn landing(&self) -> &SpelledCommit
         ensures { result.now ≡ landing_written self.now }
     {
         &self.landing
@@ -52,7 +52,7 @@ impl NextVersion {
     }
 
     /// What its landing writes, and its snapshot.
-    pub fn into_parts(self) -> (SharedCommit, Snapshot)
+    pub fn into_parts(self) -> (SpelledCommit, Snapshot)
         ensures landing { result.0 ≡ landing_written self }
         ensures snapshot { result.1 ≡ self.snapshot }
     {

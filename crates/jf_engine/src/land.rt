@@ -159,8 +159,7 @@ impl<D: Disk> Engine<D> {
             take_back(&mut self.directory, &landings);
             return Err(LandFault::Differs(found));
         }
-        let Ok(()) = encode_landings(rt, alloc, &mut self.frame, self.format, &landings, workers)
-        else {
+        let Ok(()) = encode_landings(alloc, &mut self.frame, self.format, &landings) else {
             take_back(&mut self.directory, &landings);
             return Err(LandFault::Refused(EngineFault::Memory));
         };

@@ -4,9 +4,7 @@ use Rattle.std.proofs.lemmas.List.{append-nil}
 use Rattle.std.specs.List.{flat_map, AllByRecursion}
 use Rattle.jf_path.specs.Keys.{IsKey, IsBytes}
 use Rattle.jf_path.specs.Limits.{max_value}
-use Rattle.jf_path.specs.Names.{IsName}
 use Rattle.jf_path.specs.Numbers.{two_bytes}
-use Rattle.jf_path.specs.declared.name.NodeName.{NodeName}
 use Rattle.jf_path.specs.declared.children.Child.{Child}
 use Rattle.jf_path.specs.declared.node.PlainNode.{PlainNode}
 use Rattle.jf_path.specs.declared.node.PlainNode.TheVariants as node
@@ -14,16 +12,14 @@ use Rattle.jf_path.proofs.ByteLaws.{AreBytes, AreBytes-at_places, IsBytes-from_p
 use Rattle.jf_codec.specs.declared.fault.CodecFault.{CodecFault}
 use Rattle.jf_codec.specs.declared.format.Format.{Format}
 use Rattle.jf_codec.specs.declared.format.Format.TheVariants as format
-use Rattle.jf_codec.specs.Reading.{bytes_at, two_at, name_at, leaf_at, node_at}
+use Rattle.jf_codec.specs.Reading.{bytes_at, two_at, leaf_at, node_at}
 use Rattle.jf_codec.specs.Spelling.{IsNode, tag, node_bytes, child_bytes, bitmap, leaf_children}
 use Rattle.jf_codec.proofs.Bits.{bitmap-small, ones-bitmap}
 use Rattle.jf_codec.proofs.Counted.{in_format-same, nibbles_of}
 use Rattle.jf_codec.proofs.FieldLaws.{ok_is, two_again, bytes_again}
 use Rattle.jf_codec.proofs.Lengths.{whole_hashes}
-use Rattle.jf_codec.proofs.Names.{name_again}
-use Rattle.jf_codec.proofs.Nodes.{node_takes, node_again}
-use Rattle.jf_codec.proofs.Spellings.{one_spelling}
-use Rattle.jf_payload.specs.Spelling.{fresh_bytes}
+use Rattle.jf_codec.proofs.Nodes.{node_takes}
+use Rattle.jf_standing.proofs.NodesRead.{node_read}
 use Rattle.jf_landing.specs.Scanned.{GivenMemory, leaf_alone}
 
 -- what comes behind the first of some bytes
@@ -34,13 +30,6 @@ behind_first (b ∷ bytes) = bytes
 abbrev first_or_none : List ℕ → ℕ
 first_or_none [] = 0
 first_or_none (b ∷ bytes) = b
-
-node_read : (fmt : Format) (n : PlainNode) (bytes tail : List ℕ) → IsNode fmt n → bytes ≡ node_bytes fmt n ++ tail → node_at bytes ≡ Ok (n, tail)
-node_read fmt n bytes tail is e = let o = one_spelling fmt n is in ap node_at e ∙ ap (λ (s : List ℕ). node_at (s ++ tail)) (sym o.1) ∙ node_again n tail o.0
-
--- ---- names
-pub name_read : (fmt : Format) (x : NodeName × PlainNode) (bytes tail : List ℕ) → IsName x.0 → bytes ≡ fresh_bytes fmt x ++ tail → name_at bytes ≡ Ok (x.0, node_bytes fmt x.1 ++ tail)
-name_read fmt x bytes tail is e = ap name_at (e ∙ append_assoc _ (node_bytes fmt x.1) tail) ∙ name_again x.0 (node_bytes fmt x.1 ++ tail) is
 
 -- ---- leaves
 pub leaf_read : (fmt : Format) (key value bytes tail : List ℕ) → IsNode fmt (node.Leaf key value) → 1 ∷ bytes ≡ node_bytes fmt (node.Leaf key value) ++ tail → leaf_at bytes ≡ Ok (node.Leaf key value, tail)

@@ -7,10 +7,6 @@ use Rattle.jf_codec.specs.declared.format.Format.{Format}
 use Rattle.jf_codec.specs.declared.format.Format.TheVariants as format
 use Rattle.jf_replay.specs.Kept.{child_in_format}
 
-pub leaf_kept : (fmt : Format) (key value : List ℕ) → node.Leaf key value ≡ in_format fmt (node.Leaf key value)
-leaf_kept format.One key value = refl
-leaf_kept format.Two key value = refl
-
 pub inner_kept : (fmt : Format) (cs : List Child) → node.Inner (map (child_in_format fmt) cs) ≡ in_format fmt (node.Inner cs)
 inner_kept format.One cs = refl
 inner_kept format.Two cs = ap (λ xs. node.Inner xs) (same cs)

@@ -30,7 +30,8 @@ use Rattle.jf_update.specs.Outcomes.{AreShort}
 use Rattle.jf_diff.specs.Landings.{version_or}
 use Rattle.jf_dir.specs.Directories.{IsSnapshotAt}
 use Rattle.jf_landing.specs.Scanned.{leaf_alone}
-use Rattle.jf_landing.proofs.Rounds.{one_more_read, alone_at}
+use Rattle.jf_standing.proofs.Rounds.{one_more_read}
+use Rattle.jf_landing.proofs.Rounds.{alone_at}
 use Rattle.jf_landing.proofs.Whole.{entries-fresh}
 use Rattle.jf_replay.specs.Changes.{changes_by, leaves_at, IsNameIn}
 use Rattle.jf_replay.specs.Next.{IsNameAtHead}

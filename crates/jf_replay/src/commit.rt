@@ -147,10 +147,7 @@ pub(crate) fn check_spelled<'a, H: Threads + Sync>(
     next.snapshot().know();
     // Ensures that the counts have 64 bits.
     let _ = (next.landing().fresh.len(), next.landing().stale.len());
-    let Some(rest) = next
-        .landing()
-        .strip_from(rt, alloc, bytes, format, workers)?
-    else {
+    let Some(rest) = next.landing().strip_from(alloc, bytes, format)? else {
         return Err(CheckFault::Unsound);
     };
     let (landing, snapshot) = next.into_parts();

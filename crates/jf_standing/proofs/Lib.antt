@@ -48,3 +48,5 @@ pub mod SpelledRead
 pub mod Formats
 pub mod WithCounts
 pub mod SpelledRecords
+pub mod NodesRead
+pub mod Rounds

@@ -134,16 +134,16 @@ module _ (fmt : Format) (version : ℕ → ℕ) (d : ℕ) (es : Part) (few : len
 
 -- ---- nodes
 -- a node of a part whose keys and values are within the limits has a spelling
-part_valid : (fmt : Format) (version : ℕ → ℕ) (d : ℕ) (es : Part) → length es < 2 ^ 64 → ((i : ℕ) → version i < 2 ^ 64) → AllByRecursion (λ (e : List ℕ × List ℕ). IsKey e.0 × IsBytes e.1 × (length e.1 ≤ 4096)) es → IsNode fmt (plain_node (is_counted fmt) version d es)
+pub part-valid : (fmt : Format) (version : ℕ → ℕ) (d : ℕ) (es : Part) → length es < 2 ^ 64 → ((i : ℕ) → version i < 2 ^ 64) → AllByRecursion (λ (e : List ℕ × List ℕ). IsKey e.0 × IsBytes e.1 × (length e.1 ≤ 4096)) es → IsNode fmt (plain_node (is_counted fmt) version d es)
 unfolding plain_node
-part_valid fmt version d [] few versions all = tt
-part_valid fmt version d (e ∷ []) few versions all = all.0
-part_valid fmt version d (e ∷ f ∷ es) few versions all = inner_valid fmt version d (e ∷ f ∷ es) few versions (omega arith)
+part-valid fmt version d [] few versions all = tt
+part-valid fmt version d (e ∷ []) few versions all = all.0
+part-valid fmt version d (e ∷ f ∷ es) few versions all = inner_valid fmt version d (e ∷ f ∷ es) few versions (omega arith)
 
 -- a node of a map whose keys and values are within the limits has a spelling
 pub node-valid : (fmt : Format) (m : Map) (version : ℕ → ℕ) (p : Path) → AllByRecursion (λ (e : List ℕ × List ℕ). IsKey e.0 × IsBytes e.1 × (length e.1 ≤ 4096)) (entries m) → len m < 2 ^ 64 → ((i : ℕ) → version i < 2 ^ 64) → IsNode fmt (plain_node (is_counted fmt) version (length p) (under 0 p (entries m)))
 node-valid fmt m version p all few versions =
-    part_valid fmt version (length p) (under 0 p (entries m)) (omega (arith, length-under 0 p (entries m), fin.len-entries m)) versions (All-each_element _ (under 0 p (entries m)) (λ e has. All-of _ (entries m) e all (under-Contains 0 p (entries m) e has)))
+    part-valid fmt version (length p) (under 0 p (entries m)) (omega (arith, length-under 0 p (entries m), fin.len-entries m)) versions (All-each_element _ (under 0 p (entries m)) (λ e has. All-of _ (entries m) e all (under-Contains 0 p (entries m) e has)))
 
 -- ---- a landing
 version_low : (s : Standing) (m : Map) (p : Path) → version_after s m p ≤ s.head + 1

@@ -1,7 +1,6 @@
 // `advance` and then `written` return what `update` returns with any number of workers: the same root, and the same names
 // of nodes.
 use crate::landings::{Change, WORKERS, batch_of, workers_of};
-use jf_diff::NamedNodes;
 use jf_join::{FreeGate, Workers};
 use jf_node::Snapshot;
 use jf_path::{NodeName, PlainNode};
@@ -70,31 +69,17 @@ fn in_one_call<H: Threads + Sync>(
     Ok(Box::new(alloc, landed)?)
 }
 
-// Whether the nodes at a place have the same name. Both lists must be longer.
-fn has_same_name(
-    alloc: Global,
-    some: &[(NodeName, PlainNode)],
-    others: &NamedNodes,
-    place: usize,
-) -> Result<bool, Fail> {
-    if place >= some.len() || place as u64 >= others.len() {
-        return Err(Fail::new("a list is too short"));
+// Whether nodes have the same names.
+fn have_same_names(some: &[(NodeName, PlainNode)], others: &[(NodeName, PlainNode)]) -> bool {
+    if some.len() != others.len() {
+        return false;
     }
-    let other = others.get(alloc, place)?;
-    Ok(some[place].0 == other.0)
-}
-
-fn have_same_names(
-    alloc: Global,
-    some: &[(NodeName, PlainNode)],
-    others: &NamedNodes,
-) -> Result<bool, Fail> {
-    for place in 0..some.len() {
-        if !has_same_name(alloc, some, others, place)? {
-            return Ok(false);
+    for (node, other) in some.iter().zip(others) {
+        if node.0 != other.0 {
+            return false;
         }
     }
-    Ok(some.len() as u64 == others.len())
+    true
 }
 
 fn are_same(alloc: Global, update: &Update, landed: &Landed) -> Result<bool, Fail> {
@@ -103,7 +88,8 @@ fn are_same(alloc: Global, update: &Update, landed: &Landed) -> Result<bool, Fai
     {
         return Ok(false);
     }
-    have_same_names(alloc, update.fresh.as_slice(), &landed.lists.fresh)
+    let others = landed.lists.fresh.plain_nodes(alloc)?;
+    Ok(have_same_names(update.fresh.as_slice(), &others))
 }
 
 fn snapshot_of(landed: Box<Landed>) -> Snapshot {

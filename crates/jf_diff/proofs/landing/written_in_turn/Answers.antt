@@ -1,4 +1,4 @@
-use Rattle.std.proofs.Common.{subst, sym}
+use Rattle.std.proofs.Common.{subst, sym, ◌∙◌}
 use Rattle.std.specs.Option.{option_copied}
 use Rattle.jf_diff.specs.OptionalNodes.{IsOfVersion}
 use Rattle.jf_diff.specs.Tops.{IsStaleUnder}
@@ -29,11 +29,11 @@ pub stale_of-requires-clause-sorted : goal.stale_of-requires-clause-sorted
 stale_of-requires-clause-sorted c = sorted_top c.args.new.now (option_copied c.top-3.result) c.top-3.ensures
 
 pub returns-clause-fresh : goal.returns-clause-fresh
-returns-clause-fresh c = landed_nodes c.args.old.now c.args.new.now (option_copied c.top.result) c.version.result _ c.know.ensures c.top.ensures c.requires.next c.version.ensures c.in_ok-fresh.ensures
+returns-clause-fresh c = landed_nodes c.args.old.now c.args.new.now (option_copied c.top.result) c.version.result _ c.know.ensures c.top.ensures c.requires.next c.version.ensures (λ es before under. c.in_ok-fresh.ensures ∙ c.in_ok-nodes.ensures es before under)
 
 pub returns-clause-stale : goal.returns-clause-stale
 returns-clause-stale c = landed_names c.args.old.now c.args.new.now (option_copied c.top-2.result) (option_copied c.top-3.result) c.version-2.result _ c.top-2.ensures c.top-3.ensures c.version-2.ensures c.in_ok-stale.ensures
 
 pub returns-clause-bounded : goal.returns-clause-bounded
 returns-clause-bounded c =
-    written_count c.args.old.now c.args.new.now _ c.know.ensures (landed_nodes c.args.old.now c.args.new.now (option_copied c.top.result) c.version.result _ c.know.ensures c.top.ensures c.requires.next c.version.ensures c.in_ok-fresh.ensures)
+    written_count c.args.old.now c.args.new.now _ c.know.ensures (landed_nodes c.args.old.now c.args.new.now (option_copied c.top.result) c.version.result _ c.know.ensures c.top.ensures c.requires.next c.version.ensures (λ es before under. c.in_ok-fresh.ensures ∙ c.in_ok-nodes.ensures es before under))

@@ -6,4 +6,4 @@ use Rattle.jf_payload.specs.Spelling.{commit_bytes}
 use Rattle.jf_engine.proofs.frame.put_group.Given as goal
 
 abbrev pub invariant-loop-landing : goal.invariant-loop-landing
-invariant-loop-landing g l = l.out ≡ l.fn.out ++ (eight_bytes (length l.landings) ++ flat_map (commit_bytes l.format) (take l.landing-index l.landings))
+invariant-loop-landing l = l.out ≡ l.fn.out ++ (eight_bytes (length l.landings) ++ flat_map (commit_bytes l.format) (take l.landing-index l.landings))

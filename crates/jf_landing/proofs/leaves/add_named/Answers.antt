@@ -2,7 +2,7 @@ use Rattle.std.proofs.Common.{◌++◌, List, ℕ, sym, ap, ◌∙◌}
 use Rattle.jf_path.specs.declared.name.NodeName.{NodeName}
 use Rattle.jf_codec.specs.Spelling.{node_bytes}
 use Rattle.jf_codec.proofs.FieldLaws.{ok_is}
-use Rattle.jf_landing.proofs.Parts.{name_read}
+use Rattle.jf_standing.proofs.NodesRead.{name_read}
 use Rattle.jf_landing.proofs.leaves.add_named.Goals as goal
 
 pub returns-in-Ok-clause-spelled : goal.returns-in-Ok-clause-spelled

@@ -4,7 +4,8 @@ use Rattle.std.proofs.lemmas.Result.{err_from_is_err_and}
 use Rattle.std.specs.List.{flat_map}
 use Rattle.jf_path.proofs.ListLaws.{All-by_place}
 use Rattle.jf_payload.specs.Spelling.{fresh_bytes}
-use Rattle.jf_landing.proofs.Rounds.{next_at_front, one_more_read, no_node, alone_at}
+use Rattle.jf_standing.proofs.Rounds.{next_at_front, one_more_read, no_node}
+use Rattle.jf_landing.proofs.Rounds.{alone_at}
 use Rattle.jf_landing.proofs.leaves.leaves_of.Goals as goal
 
 pub returns-in_err-rest-clause-spelled : goal.returns-in_err-rest-clause-spelled

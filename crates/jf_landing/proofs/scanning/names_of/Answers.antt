@@ -8,7 +8,7 @@ use Rattle.jf_codec.specs.Spelling.{name_bytes}
 use Rattle.jf_codec.proofs.FieldLaws.{ok_is}
 use Rattle.jf_codec.proofs.Names.{name_again}
 use Rattle.jf_codec.specs.Reading.{name_at}
-use Rattle.jf_landing.proofs.Rounds.{next_at_front, no_name}
+use Rattle.jf_standing.proofs.Rounds.{next_at_front, no_name}
 use Rattle.jf_landing.proofs.scanning.names_of.Goals as goal
 
 pub returns-in-Err : goal.returns-in-Err

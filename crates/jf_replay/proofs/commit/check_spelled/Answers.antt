@@ -31,9 +31,8 @@ strip_from-requires g c =
     let fresh : length c.in_ok-next.next.fresh < 2 ^ 64 = search rules in
     let stale : length c.in_ok-next.next.stale < 2 ^ 64 = search rules in
     let spelled = written-spelled c.args.format dir next keys c.in_ok-next.ensures.own known.map c.in_ok-next.ensures.room c.landings_are_spelled.ensures c.written_in_both.ensures known.short fresh stale in
-    let nodes = subst (λ (l : Commit). AllByRecursion (λ x. IsNode c.args.format (in_format c.args.format x.1)) l.fresh) (sym c.landing-3.ensures)
-    (written-nodes c.args.format dir next keys c.in_ok-next.ensures.own known.map c.in_ok-next.ensures.room spelled) in
-    (search rules, nodes)
+    subst (λ (l : Commit). AllByRecursion (λ x. IsNode c.args.format (in_format c.args.format x.1)) l.fresh) (sym c.landing-3.ensures)
+    (written-nodes c.args.format dir next keys c.in_ok-next.ensures.own known.map c.in_ok-next.ensures.room spelled)
 
 pub returns-in_default-clause-unsound : goal.returns-in_default-clause-unsound
 returns-in_default-clause-unsound g c = λ is d tail spelled e goes after.

@@ -1,0 +1,10 @@
+-- The parts before the present one are taken off the front.
+use Rattle.std.proofs.Common.{◌≡◌, ◌++◌, take}
+use Rattle.std.specs.List.{flat_map}
+use Rattle.jf_codec.specs.declared.format.Format.TheVariants as format
+use Rattle.jf_payload.specs.Spelling.{fresh_bytes}
+use Rattle.jf_diff.specs.Spelled.{all_parts}
+use Rattle.jf_diff.proofs.named_nodes.strip_parts.Given as goal
+
+abbrev pub invariant-loop-part : goal.invariant-loop-part
+invariant-loop-part l = l.bytes ≡ flat_map (fresh_bytes format.Two) (all_parts (take l.part-index l.parts)) ++ l.rest
