@@ -96,7 +96,7 @@ pub(crate) fn land_and_undo<H: Threads + Sync>(
     Ok(count)
 }
 
-// The same with what the landing writes, whose nodes are shared and not copied.
+// The same with what the landing writes, whose nodes are kept as bytes.
 pub(crate) fn land_and_undo_landing<H: Threads + Sync>(
     rt: &H,
     alloc: Global,
