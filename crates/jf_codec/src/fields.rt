@@ -1,6 +1,6 @@
 // A field is read from the front of bytes and returned with the bytes after it, or added at the end of bytes. Numbers
 // have their highest byte first.
-ghost use Rattle.std.specs.Prelude.{◌≡◌, ◌++◌, OnOk, OnErr};
+ghost use Rattle.std.specs.Prelude.{◌≡◌, ◌++◌, ℕ, List, IfSome, None, OnOk, OnErr};
 ghost use Rattle.jf_path.specs.Numbers.{two_bytes, four_bytes, eight_bytes};
 ghost use Rattle.jf_codec.specs.Reading.{Reads, bytes_at, two_at, four_at, eight_at};
 
@@ -56,6 +56,16 @@ pub fn front_of(count: usize, bytes: &[u8]) -> Result<(&[u8], &[u8]), CodecFault
         return Err(CodecFault::Short);
     }
     Ok(bytes.split_at(count))
+}
+
+/// The bytes after `front`, if bytes begin with it.
+pub fn strip_front<'a>(bytes: &'a [u8], front: &[u8]) -> Option<&'a [u8]>
+    // The bytes are the front, and then the result.
+    ensures found { IfSome result (λ rest. bytes.now ≡ front.now ++ rest.now) }
+    // There is none only if the bytes don't begin with the front.
+    ensures none { result ≡ None → (tail : List ℕ) → bytes.now ≡ front.now ++ tail → ⊥ }
+{
+    bytes.strip_prefix(front)
 }
 
 /// Adds a number in two bytes. If memory runs out, `out` is unchanged.

@@ -14,7 +14,9 @@ mod tags;
 mod writing;
 
 pub use fault::CodecFault;
-pub use fields::{front_of, key_at, put_u16, put_u32, put_u64, u16_at, u32_at, u64_at};
+pub use fields::{
+    front_of, key_at, put_u16, put_u32, put_u64, strip_front, u16_at, u32_at, u64_at,
+};
 pub use format::Format;
 pub use laws::{one_name_in_front, one_node_in_front, one_spelling};
 pub use length::{inner_len, name_len, node_len};

@@ -23,7 +23,7 @@ pub use bytes::Bytes;
 pub use children::{Child, Children};
 pub use fault::PathFault;
 pub use key::{Key, bit, common_bits, nibble};
-pub use laws::{know_bytes, know_entries, know_key};
+pub use laws::{know_bytes, know_entries, know_key, know_name, know_versions};
 pub use limits::{MAX_FORKS, MAX_PINS, MAX_SESSIONS, MAX_VALUE, MAX_WORKERS};
 pub use lists::{HashList, Pairs};
 pub use memory::Memory;

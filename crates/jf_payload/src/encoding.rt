@@ -36,8 +36,13 @@ pub fn put_names(out: &mut Bytes, names: &[NodeName]) -> Result<(), Memory>
     Ok(())
 }
 
-// Adds each node after its name.
-fn put_fresh(out: &mut Bytes, format: Format, nodes: &[(NodeName, PlainNode)]) -> Result<(), Memory>
+/// Adds each node after its name. What the format keeps of each node must have a spelling. If memory runs out, some of it may
+/// follow what was in `out`.
+pub fn put_fresh(
+    out: &mut Bytes,
+    format: Format,
+    nodes: &[(NodeName, PlainNode)],
+) -> Result<(), Memory>
     requires { AllByRecursion (λ x. IsNode format (in_format format x.1)) nodes.now }
     ensures { OnOk result (out.new ≡ out.old ++ flat_map (fresh_bytes format) nodes.now) }
 {

@@ -39,8 +39,8 @@ pub fn names_len(names: &[NodeName]) -> Result<u64, Memory>
     Ok(length)
 }
 
-// The number of bytes of nodes after their names.
-fn fresh_len(format: Format, nodes: &[(NodeName, PlainNode)]) -> Result<u64, Memory>
+/// The number of bytes of nodes after their names. What the format keeps of each node must have a spelling.
+pub fn fresh_len(format: Format, nodes: &[(NodeName, PlainNode)]) -> Result<u64, Memory>
     requires { AllByRecursion (λ x. IsNode format (in_format format x.1)) nodes.now }
     ensures { IfOk result (λ n. n ≡ length (flat_map (fresh_bytes format) nodes.now)) }
 {

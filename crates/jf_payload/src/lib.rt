@@ -19,7 +19,7 @@ mod records;
 
 pub use commits::Commits;
 pub use decoding::decode;
-pub use encoding::{encode, put_names};
+pub use encoding::{encode, put_fresh, put_names};
 pub use fault::RecordFault;
 pub use floor::encode_floor;
 pub use kinds::{CLOSED, COMMIT, GROUP};
@@ -27,6 +27,6 @@ pub use laws::{
     kept_is_spelled, one_record, one_spelling, spelled_is_spelling, spelling_is_decided,
     written_in_both,
 };
-pub use length::{names_len, sum_within};
+pub use length::{fresh_len, names_len, sum_within};
 pub use lists::room_for;
 pub use records::{Commit, Record};
