@@ -1,5 +1,4 @@
 pub mod Names
-pub mod Items
 pub mod ChildPlaces
 pub mod PlainNodes
 pub mod PlainBytes

@@ -2,7 +2,7 @@
 use denote.Ref.{Bor}
 use Rattle.std.proofs.Common.{ℕ, ◌-◌, List, ◌∷◌, length, sym, ap, arith, None, ◌+◌, ◌<◌, Option, Some, ◌≡◌, get_or, ◌∙◌, subst, [], inl, inr, ◌⊎◌, true, refl, ◌++◌, append-nil, ◌≤◌, ap₂, Bool, true≢false, false, append_assoc}
 use Rattle.std.proofs.lemmas.Bool.{cases_lt}
-use Rattle.std.proofs.lemmas.List.{get_or_past}
+use Rattle.std.proofs.lemmas.List.{get_or_past, length_push}
 use Rattle.std.specs.Option.{option_copied}
 use Rattle.jf_path.specs.declared.name.NodeName.{NodeName}
 use Rattle.jf_hash.specs.Slots.{with_nibble, Part}
@@ -24,6 +24,11 @@ use Rattle.jf_diff.specs.Below.{IsBelow, IsOneBelow, IsFreshBelow, TellsIfOlder,
 use Rattle.jf_diff.specs.Landings.{version_or}
 use Rattle.jf_diff.specs.OptionalNodes.{IsAtDepth, IsOfVersion}
 use Rattle.jf_diff.proofs.ChildPlaces.{child_part, child_placed}
+
+-- ---- what is gone into
+-- a node that is gone into once and listed once
+pub counted-own : {X : Type 0} (out now : List X) (x : X) (before after : ℕ) → now ≡ out ++ x ∷ [] → after ≡ before + 1 → after + length out ≡ before + length now
+counted-own out now x before after is tick = omega (arith, tick, ap length is, length_push out x)
 
 -- ---- children
 -- a leaf has no child

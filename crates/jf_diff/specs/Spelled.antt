@@ -15,5 +15,5 @@ pub record AreSpelled (nodes : List (NodeName × PlainNode)) (count : ℕ) (byte
   pub valid : AllByRecursion (λ x. IsName x.0 × IsNode format.Two x.1) nodes
 
 -- the nodes of all parts
-abbrev pub all_parts : List (List (NodeName × PlainNode)) → List (NodeName × PlainNode)
-all_parts parts = flat_map (λ part. part) parts
+abbrev pub nodes_of : List (List (NodeName × PlainNode)) → List (NodeName × PlainNode)
+nodes_of parts = flat_map (λ part. part) parts

@@ -4,9 +4,7 @@
 
 mod changed;
 mod child;
-mod front;
 mod gone;
-mod known;
 mod landing;
 mod list;
 mod lists;
@@ -22,9 +20,8 @@ mod top;
 mod wide;
 
 pub use child::{child_in, child_of, is_kept};
-pub use front::strip_front;
 pub use gone::{list_all_nodes, list_stale_nodes};
-pub use landing::landing_lists;
+pub use landing::{landing_lists, landing_lists_counted};
 pub use lists::Written;
 pub use named_nodes::NamedNodes;
 pub use plain_node::plain_of;

@@ -1,5 +1,5 @@
 // Walks that list, in the order of paths, the nodes that an update wrote and those that it made stale.
-ghost use Rattle.std.specs.Prelude.{◌≡◌, ℕ, ◌++◌, Option, length, OnOk};
+ghost use Rattle.std.specs.Prelude.{◌≡◌, ℕ, ◌+◌, ◌++◌, Option, length, OnOk};
 ghost use Rattle.std.specs.Option.{option_copied};
 ghost use Rattle.jf_hash.specs.Slots.{Part};
 ghost use Rattle.jf_model.specs.Nodes.{Path};
@@ -12,20 +12,25 @@ use crate::child::{child_in, child_of, is_kept};
 use crate::shared_nodes::SharedNodes;
 use jf_node::Link;
 use jf_path::{Memory, Nibble, NibblePath, NodeName};
+use jf_steps::Steps;
+use std::sync::ledger::Ledger;
 
 /// Appends the nodes from `link` down that a landing wrote; `path` leads to it. It has the version of the landing, and so
-/// is the first of them.
+/// is the first of them. A step is a node gone into, here and below: as many as are listed.
 #[cycle(fresh)]
-pub(crate) fn list_fresh(
+pub(crate) fn list_fresh<L: Ledger>(
     link: &Link,
     version: u64,
     path: &NibblePath,
     out: &mut SharedNodes,
+    steps: &mut Steps<L>,
 ) -> Result<(), Memory>
     requires path { length path.now ≡ link.now.depth }
     requires own { link.now.version ≡ version }
-    ensures { OnOk result ((es : Part) (before : Path → Option ℕ) → IsFreshBelow version es before link.now → out.new ≡ out.old ++ from_node link.now.depth es link.now.entries (fresh_below version path.now link.now)) }
+    ensures lists { OnOk result ((es : Part) (before : Path → Option ℕ) → IsFreshBelow version es before link.now → out.new ≡ out.old ++ from_node link.now.depth es link.now.entries (fresh_below version path.now link.now)) }
+    ensures cost { OnOk result (steps.new + length out.old ≡ steps.old + length out.new) }
 {
+    steps.tick();
     link.know();
     let name = NodeName {
         version,
@@ -36,22 +41,24 @@ pub(crate) fn list_fresh(
         return Ok(());
     }
     for n in 0..16 {
-        list_fresh_at(link, version, path, Nibble::of(n), out)?;
+        list_fresh_at(link, version, path, Nibble::of(n), out, steps)?;
     }
     Ok(())
 }
 
 /// Appends the nodes that a landing wrote from the child of `link` at nibble `n` down; `path` leads to `link`.
 #[cycle(fresh)]
-pub(crate) fn list_fresh_at(
+pub(crate) fn list_fresh_at<L: Ledger>(
     link: &Link,
     version: u64,
     path: &NibblePath,
     n: Nibble,
     out: &mut SharedNodes,
+    steps: &mut Steps<L>,
 ) -> Result<(), Memory>
     requires path { length path.now ≡ link.now.depth }
-    ensures { OnOk result ((es : Part) (before : Path → Option ℕ) → IsFreshBelow version es before link.now → out.new ≡ out.old ++ listed_below link.now.depth n es link.now.entries (fresh_below version path.now link.now)) }
+    ensures lists { OnOk result ((es : Part) (before : Path → Option ℕ) → IsFreshBelow version es before link.now → out.new ≡ out.old ++ listed_below link.now.depth n es link.now.entries (fresh_below version path.now link.now)) }
+    ensures cost { OnOk result (steps.new + length out.old ≡ steps.old + length out.new) }
 {
     match child_of(link, n) {
         None => Ok(()),
@@ -59,27 +66,31 @@ pub(crate) fn list_fresh_at(
             if child.version() != version {
                 return Ok(());
             }
-            list_fresh(child, version, &path.child(n), out)?;
+            list_fresh(child, version, &path.child(n), out, steps)?;
             Ok(())
         }
     }
 }
 
 /// Appends the names of the nodes from `old` down that a landing made stale; `path` leads to it. The node `new`, which
-/// stands in its place, has the version of the landing, if there is one, and so `old` is the first of them.
+/// stands in its place, has the version of the landing, if there is one, and so `old` is the first of them. A step is a node
+/// gone into, as in `list_fresh`.
 #[cycle(stale)]
-pub(crate) fn list_stale(
+pub(crate) fn list_stale<L: Ledger>(
     old: &Link,
     new: Option<&Link>,
     version: u64,
     path: &NibblePath,
     out: &mut Vec<NodeName>,
+    steps: &mut Steps<L>,
 ) -> Result<(), Memory>
     requires path { length path.now ≡ old.now.depth }
     requires new { IsAtDepth old.now.depth (option_copied new) }
     requires own { IsOfVersion version (option_copied new) }
-    ensures { OnOk result (IsStaleBelow version old.now (option_copied new.entry) → out.new.items ≡ out.old.items ++ from_node old.now.depth (content (option_copied new.entry)) old.now.entries (name_below path.now old.now)) }
+    ensures lists { OnOk result (IsStaleBelow version old.now (option_copied new.entry) → out.new.items ≡ out.old.items ++ from_node old.now.depth (content (option_copied new.entry)) old.now.entries (name_below path.now old.now)) }
+    ensures cost { OnOk result (steps.new + length out.old.items ≡ steps.old + length out.new.items) }
 {
+    steps.tick();
     old.know();
     out.push(NodeName {
         version: old.version(),
@@ -89,7 +100,7 @@ pub(crate) fn list_stale(
         return Ok(());
     }
     for n in 0..16 {
-        list_stale_at(old, new, version, path, Nibble::of(n), out)?;
+        list_stale_at(old, new, version, path, Nibble::of(n), out, steps)?;
     }
     Ok(())
 }
@@ -97,17 +108,19 @@ pub(crate) fn list_stale(
 /// Appends the names of the nodes that a landing made stale from the child of `old` at nibble `n` down; `new` stands in
 /// the place of `old`, and `path` leads to it.
 #[cycle(stale)]
-pub(crate) fn list_stale_at(
+pub(crate) fn list_stale_at<L: Ledger>(
     old: &Link,
     new: Option<&Link>,
     version: u64,
     path: &NibblePath,
     n: Nibble,
     out: &mut Vec<NodeName>,
+    steps: &mut Steps<L>,
 ) -> Result<(), Memory>
     requires path { length path.now ≡ old.now.depth }
     requires new { IsAtDepth old.now.depth (option_copied new) }
-    ensures { OnOk result (IsStaleBelow version old.now (option_copied new.entry) → out.new.items ≡ out.old.items ++ listed_below old.now.depth n (content (option_copied new.entry)) old.now.entries (name_below path.now old.now)) }
+    ensures lists { OnOk result (IsStaleBelow version old.now (option_copied new.entry) → out.new.items ≡ out.old.items ++ listed_below old.now.depth n (content (option_copied new.entry)) old.now.entries (name_below path.now old.now)) }
+    ensures cost { OnOk result (steps.new + length out.old.items ≡ steps.old + length out.new.items) }
 {
     match child_of(old, n) {
         None => Ok(()),
@@ -116,7 +129,7 @@ pub(crate) fn list_stale_at(
             if is_kept(there, version) {
                 return Ok(());
             }
-            list_stale(child, there, version, &path.child(n), out)?;
+            list_stale(child, there, version, &path.child(n), out, steps)?;
             Ok(())
         }
     }

@@ -7,14 +7,13 @@ ghost use Rattle.jf_codec.specs.declared.format.Format.TheVariants as format;
 ghost use Rattle.jf_codec.specs.Spelling.{IsNode};
 ghost use Rattle.jf_codec.specs.Counted.{in_format};
 ghost use Rattle.jf_payload.specs.Spelling.{fresh_bytes};
-ghost use Rattle.jf_diff.specs.Spelled.{all_parts};
+ghost use Rattle.jf_diff.specs.Spelled.{nodes_of};
 
-use crate::front::strip_front;
 use crate::shared_nodes::SharedNodes;
 use crate::spelled_nodes::SpelledNodes;
-use jf_codec::{Format, name_len, node_len, put_name, put_node};
+use jf_codec::{Format, strip_front};
 use jf_path::{Bytes, FreshList, Memory, NodeName, PlainNode};
-use jf_payload::sum_within;
+use jf_payload::{fresh_len, put_fresh, sum_within};
 use std::alloc::Global;
 use std::marker::Model;
 
@@ -33,41 +32,16 @@ impl Model for NamedNodes {
 
     ghost Value = { List (NodeName × PlainNode) };
 
-    ghost use Rattle.jf_diff.specs.Spelled.{all_parts};
+    ghost use Rattle.jf_diff.specs.Spelled.{nodes_of};
 
-    ghost view = { λ l. all_parts l.parts.items };
+    ghost view = { λ l. nodes_of l.parts.items };
 
-    ghost invariant = { λ l. l.count ≡ length (all_parts l.parts.items) };
-}
-
-/// The number of bytes of nodes after their names.
-fn length_of(format: Format, nodes: &[(NodeName, PlainNode)]) -> Result<u64, Memory>
-    requires { AllByRecursion (λ x. IsNode format (in_format format x.1)) nodes.now }
-    ensures { IfOk result (λ n. n ≡ length (flat_map (fresh_bytes format) nodes.now)) }
-{
-    let mut length = 0;
-    for item in nodes {
-        length = sum_within(length, name_len(&item.0))?;
-        length = sum_within(length, node_len(format, &item.1))?;
-    }
-    Ok(length)
-}
-
-/// Adds nodes after their names. If memory runs out, some of it may follow what was in `out`.
-fn put_each(out: &mut Bytes, format: Format, nodes: &[(NodeName, PlainNode)]) -> Result<(), Memory>
-    requires { AllByRecursion (λ x. IsNode format (in_format format x.1)) nodes.now }
-    ensures { OnOk result (out.new ≡ out.old ++ flat_map (fresh_bytes format) nodes.now) }
-{
-    for item in nodes {
-        put_name(out, &item.0)?;
-        put_node(out, format, &item.1)?;
-    }
-    Ok(())
+    ghost invariant = { λ l. l.count ≡ length (nodes_of l.parts.items) };
 }
 
 /// The number of bytes of parts.
 fn length_of_parts(parts: &[SpelledNodes]) -> Result<u64, Memory>
-    ensures { IfOk result (λ n. n ≡ length (flat_map (fresh_bytes format.Two) (all_parts parts.now))) }
+    ensures { IfOk result (λ n. n ≡ length (flat_map (fresh_bytes format.Two) (nodes_of parts.now))) }
 {
     let mut length = 0;
     for part in parts {
@@ -78,7 +52,7 @@ fn length_of_parts(parts: &[SpelledNodes]) -> Result<u64, Memory>
 
 /// Adds the bytes of parts. If memory runs out, those of some may follow what was in `out`.
 fn put_parts(out: &mut Bytes, parts: &[SpelledNodes]) -> Result<(), Memory>
-    ensures { OnOk result (out.new ≡ out.old ++ flat_map (fresh_bytes format.Two) (all_parts parts.now)) }
+    ensures { OnOk result (out.new ≡ out.old ++ flat_map (fresh_bytes format.Two) (nodes_of parts.now)) }
 {
     for part in parts {
         out.append(part.as_slice())?;
@@ -88,8 +62,8 @@ fn put_parts(out: &mut Bytes, parts: &[SpelledNodes]) -> Result<(), Memory>
 
 /// The bytes after those of parts, if bytes begin with these.
 fn strip_parts<'a>(bytes: &'a [u8], parts: &[SpelledNodes]) -> Option<&'a [u8]>
-    ensures found { IfSome result (λ rest. bytes.now ≡ flat_map (fresh_bytes format.Two) (all_parts parts.now) ++ rest.now) }
-    ensures refused { result ≡ None → (tail : List ℕ) → bytes.now ≡ flat_map (fresh_bytes format.Two) (all_parts parts.now) ++ tail → ⊥ }
+    ensures found { IfSome result (λ rest. bytes.now ≡ flat_map (fresh_bytes format.Two) (nodes_of parts.now) ++ rest.now) }
+    ensures none { result ≡ None → (tail : List ℕ) → bytes.now ≡ flat_map (fresh_bytes format.Two) (nodes_of parts.now) ++ tail → ⊥ }
 {
     let mut rest = bytes;
     for part in parts {
@@ -104,7 +78,7 @@ fn copy_parts(
     out: &mut Vec<(NodeName, PlainNode)>,
     parts: &[SpelledNodes],
 ) -> Result<(), Memory>
-    ensures { OnOk result (out.new.items ≡ out.old.items ++ all_parts parts.now) }
+    ensures { OnOk result (out.new.items ≡ out.old.items ++ nodes_of parts.now) }
 {
     for part in parts {
         part.copy_into(alloc, out)?;
@@ -167,7 +141,7 @@ impl NamedNodes {
         ensures { IfOk result (λ n. n ≡ length (flat_map (fresh_bytes format) self.now)) }
     {
         match format {
-            Format::One => length_of(format, &self.plain_nodes(alloc)?),
+            Format::One => fresh_len(format, &self.plain_nodes(alloc)?),
             Format::Two => length_of_parts(&self.parts),
         }
     }
@@ -179,7 +153,7 @@ impl NamedNodes {
         ensures { OnOk result (out.new ≡ out.old ++ flat_map (fresh_bytes format) self.now) }
     {
         match format {
-            Format::One => put_each(out, format, &self.plain_nodes(alloc)?),
+            Format::One => put_fresh(out, format, &self.plain_nodes(alloc)?),
             Format::Two => put_parts(out, &self.parts),
         }
     }
@@ -193,7 +167,7 @@ impl NamedNodes {
     ) -> Result<Option<&'a [u8]>, Memory>
         requires { AllByRecursion (λ x. IsNode format (in_format format x.1)) self.now }
         ensures found { IfOk result (λ o. IfSome o (λ rest. bytes.now ≡ flat_map (fresh_bytes format) self.now ++ rest.now)) }
-        ensures refused { result ≡ Ok None → (tail : List ℕ) → bytes.now ≡ flat_map (fresh_bytes format) self.now ++ tail → ⊥ }
+        ensures none { result ≡ Ok None → (tail : List ℕ) → bytes.now ≡ flat_map (fresh_bytes format) self.now ++ tail → ⊥ }
     {
         match format {
             Format::One => {

@@ -1,25 +1,44 @@
-// The bytes of a node by itself in a file of format 2, and about how many they are, without a copy of its value; what it says
+// The bytes of a node by itself in a file of format 2, and how many they are, without a copy of its value; what it says
 // of its children is put together in a list that serves one node after another.
-ghost use Rattle.std.specs.Prelude.{◌≡◌, ◌++◌, [], OnOk};
+ghost use Rattle.std.specs.Prelude.{◌≡◌, ◌≤◌, ◌++◌, [], length, OnOk};
 ghost use Rattle.jf_codec.specs.declared.format.Format.TheVariants as format;
 ghost use Rattle.jf_codec.specs.Spelling.{IsNode, node_bytes};
-ghost use Rattle.jf_diff.specs.Plains.{plain_at, plain_under};
+ghost use Rattle.jf_diff.specs.Plains.{children_list, plain_at, plain_under};
 
-use crate::known::know_versions;
-use crate::plain_node::children_into;
+use crate::plain_node::{branches_of, children_into};
 use jf_codec::{Format, inner_len, put_inner, put_leaf, put_node};
 use jf_hash::Places;
 use jf_node::{Link, Seen};
-use jf_path::{Bytes, Children, Memory, PlainNode};
+use jf_path::{Bytes, Children, Memory, PlainNode, know_versions};
 
-/// Room for the bytes of the node of an optional link by itself: as much as they take.
-pub(crate) fn room_of(link: &Option<Link>) -> u64 {
-    let Some(link) = link else {
-        return 1;
-    };
+/// The number of children of an inner node.
+fn count_of_children(link: &Link) -> u32
+    requires { 2 ≤ length link.now.entries }
+    ensures { result ≡ length (children_list link.now) }
+{
+    let children = branches_of(link);
+    children.know();
+    children.children().rank(16) as u32
+}
+
+/// The number of bytes of a node by itself.
+fn link_len(link: &Link) -> u64
+    ensures { result ≡ length (node_bytes format.Two (plain_at link.now [])) }
+{
+    link.know();
     match link.view() {
         Seen::Leaf { value, .. } => 37 + value.len() as u64,
-        Seen::Inner { children } => inner_len(Format::Two, children.children().rank(16) as u32),
+        Seen::Inner { .. } => inner_len(Format::Two, count_of_children(link)),
+    }
+}
+
+/// The number of bytes of the node of an optional link by itself.
+pub(crate) fn plain_len(link: &Option<Link>) -> u64
+    ensures { result ≡ length (node_bytes format.Two (plain_under link.now [])) }
+{
+    match link {
+        None => 1,
+        Some(link) => link_len(link),
     }
 }
 

@@ -7,14 +7,13 @@ ghost use Rattle.jf_codec.specs.Spelling.{IsNode};
 ghost use Rattle.jf_payload.specs.Spelling.{fresh_bytes};
 ghost use Rattle.jf_diff.specs.Plains.{plain_item};
 
-use crate::known::know_name;
-use crate::plain_bytes::{put_plain, room_of};
+use crate::plain_bytes::{plain_len, put_plain};
 use crate::read_nodes::node_in_front;
 use crate::shared_nodes::SharedNodes;
 use jf_codec::{name_len, put_name};
 use jf_ghost::Remembered;
 use jf_node::Link;
-use jf_path::{Bytes, Children, Memory, NodeName, PlainNode};
+use jf_path::{Bytes, Children, Memory, NodeName, PlainNode, know_name};
 use jf_payload::sum_within;
 use std::alloc::Global;
 use std::marker::Model;
@@ -41,14 +40,16 @@ impl Model for SpelledNodes {
     ghost invariant = { λ s. AreSpelled s.nodes.value s.count s.bytes };
 }
 
-/// Room for the nodes after their names.
-fn room_of_all(nodes: &[(NodeName, Option<Link>)]) -> Result<u64, Memory> {
-    let mut room = 0;
+/// The number of bytes of the nodes after their names.
+fn length_of(nodes: &[(NodeName, Option<Link>)]) -> Result<u64, Memory>
+    ensures { IfOk result (λ n. n ≡ length (flat_map (fresh_bytes format.Two) (map plain_item nodes.now))) }
+{
+    let mut length = 0;
     for item in nodes {
-        room = sum_within(room, name_len(&item.0))?;
-        room = sum_within(room, room_of(&item.1))?;
+        length = sum_within(length, name_len(&item.0))?;
+        length = sum_within(length, plain_len(&item.1))?;
     }
-    Ok(room)
+    Ok(length)
 }
 
 /// Adds the nodes after their names. If memory runs out, some of it may follow what was in `out`.
@@ -75,7 +76,7 @@ impl SpelledNodes {
         ensures { IfOk result (λ s. s ≡ nodes.now) }
     {
         let items = nodes.as_slice();
-        let mut bytes = Bytes::with_capacity(alloc, room_of_all(items)?)?;
+        let mut bytes = Bytes::with_capacity(alloc, length_of(items)?)?;
         put_each(alloc, &mut bytes, items)?;
         Ok(SpelledNodes {
             count: items.len() as u64,

@@ -19,7 +19,7 @@ use crate::parts::{PartLists, part_lists, top_lists};
 use crate::sorted::sorted_names;
 use jf_join::{Gate, Workers, join_pieces_from};
 use jf_node::Link;
-use jf_path::{Memory, Nibble};
+use jf_path::{Memory, Nibble, NodeName};
 use std::alloc::Global;
 use std::thread::Threads;
 
@@ -34,18 +34,17 @@ fn nibbles(alloc: Global) -> Result<Vec<Nibble>, Memory>
     Ok(all)
 }
 
-/// Takes room for the names of all parts at once, so that what is appended isn't copied again. The lists are unchanged.
-fn take_room(all: &mut PartLists, parts: &[Result<PartLists, Memory>]) -> Result<(), Memory>
-    ensures fresh { all.new.fresh ≡ all.old.fresh }
-    ensures stale { all.new.stale.items ≡ all.old.stale.items }
+/// Takes room for the stale names of all parts at once, so that what is appended isn't copied again. The names are unchanged.
+fn take_room(stale: &mut Vec<NodeName>, parts: &[Result<PartLists, Memory>]) -> Result<(), Memory>
+    ensures { stale.new.items ≡ stale.old.items }
 {
-    let mut stale: usize = 0;
+    let mut more: usize = 0;
     for part in parts {
         if let Ok(part) = part {
-            stale = stale.saturating_add(part.stale.len());
+            more = more.saturating_add(part.stale.len());
         }
     }
-    all.stale.reserve_exact(stale)?;
+    stale.reserve_exact(more)?;
     Ok(())
 }
 
@@ -63,7 +62,7 @@ fn put_together(
     ensures stale { IfOk result (λ l. IsStaleUnder version (option_copied old.entry) (option_copied top.entry) → l.stale.items ≡ with_root (content (option_copied top.entry)) (content (option_copied old.entry)) (old_name head (option_copied old.entry))) }
 {
     let mut all = top_lists(alloc, old, head, top, version)?;
-    take_room(&mut all, &parts)?;
+    take_room(&mut all.stale, &parts)?;
     for part in parts {
         let PartLists { fresh, mut stale } = part?;
         all.fresh.append(fresh)?;

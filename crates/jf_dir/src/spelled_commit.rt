@@ -6,8 +6,8 @@ ghost use Rattle.jf_codec.specs.Spelling.{IsNode, name_bytes};
 ghost use Rattle.jf_codec.specs.Counted.{in_format};
 ghost use Rattle.jf_payload.specs.Spelling.{commit_bytes, list_bytes};
 
-use jf_codec::{Format, put_u64};
-use jf_diff::{NamedNodes, strip_front};
+use jf_codec::{Format, put_u64, strip_front};
+use jf_diff::NamedNodes;
 use jf_hash::Hash;
 use jf_path::{Bytes, Memory, NameList, know_key};
 use jf_payload::{names_len, put_names, sum_within};
@@ -89,7 +89,7 @@ impl SpelledCommit {
         // After Ok with bytes, the bytes are those of the landing, and then these.
         ensures found { IfOk result (λ o. IfSome o (λ rest. bytes.now ≡ commit_bytes format self.now ++ rest.now)) }
         // After Ok with none, the bytes don't begin with those of the landing.
-        ensures refused { result ≡ Ok None → (tail : List ℕ) → bytes.now ≡ commit_bytes format self.now ++ tail → ⊥ }
+        ensures none { result ≡ Ok None → (tail : List ℕ) → bytes.now ≡ commit_bytes format self.now ++ tail → ⊥ }
     {
         let mut own = Bytes::with_capacity(alloc, 48)?;
         self.put_front(&mut own)?;
@@ -100,7 +100,7 @@ impl SpelledCommit {
             return Ok(None);
         };
         own.clear();
-        own.reserve(names_len(self.stale.as_slice())?)?;
+        own.reserve(sum_within(8, names_len(self.stale.as_slice())?)?)?;
         self.put_back(&mut own)?;
         Ok(strip_front(names, own.as_slice()))
     }

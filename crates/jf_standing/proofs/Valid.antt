@@ -38,7 +38,7 @@ use Rattle.jf_standing.proofs.Freshness.{fresh-node, listed-fresh}
 use Rattle.jf_standing.proofs.Names.{named-tells, named-so, named-in_order}
 
 -- ---- hashes
-part_root-IsKey : (d : ℕ) (es : Part) → IsKey (part_root d es)
+pub part_root-IsKey : (d : ℕ) (es : Part) → IsKey (part_root d es)
 unfolding part_root leaves_root
 part_root-IsKey d es = root_below-IsKey (256 - d) d (map leaf_of es)
 

@@ -3,8 +3,8 @@ use Rattle.std.proofs.Common.{◌≡◌, ◌++◌, take}
 use Rattle.std.specs.List.{flat_map}
 use Rattle.jf_codec.specs.declared.format.Format.TheVariants as format
 use Rattle.jf_payload.specs.Spelling.{fresh_bytes}
-use Rattle.jf_diff.specs.Spelled.{all_parts}
+use Rattle.jf_diff.specs.Spelled.{nodes_of}
 use Rattle.jf_diff.proofs.named_nodes.strip_parts.Given as goal
 
 abbrev pub invariant-loop-part : goal.invariant-loop-part
-invariant-loop-part l = l.bytes ≡ flat_map (fresh_bytes format.Two) (all_parts (take l.part-index l.parts)) ++ l.rest
+invariant-loop-part l = l.bytes ≡ flat_map (fresh_bytes format.Two) (nodes_of (take l.part-index l.parts)) ++ l.rest

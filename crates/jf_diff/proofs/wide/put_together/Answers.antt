@@ -9,9 +9,9 @@ use Rattle.jf_diff.proofs.wide.put_together.Goals as goal
 pub loop-part-init : goal.loop-part-init
 loop-part-init c = record {
   split = c.into_iter-part-iterator.ensures.into_iter_gives.0;
-  gathered = gathered_start c.args.version c.args.head (option_copied c.args.old) (option_copied c.args.top) c.take_room.new.all record {
-    fresh = c.in_ok-take_room.ensures.fresh ∙ c.in_ok-all.ensures.fresh;
-    stale = c.in_ok-take_room.ensures.stale ∙ c.in_ok-all.ensures.stale;
+  gathered = gathered_start c.args.version c.args.head (option_copied c.args.old) (option_copied c.args.top) (record { fresh = c.in_ok-all.all.fresh; stale = c.take_room.new.stale }) record {
+    fresh = c.in_ok-all.ensures.fresh;
+    stale = c.take_room.ensures ∙ c.in_ok-all.ensures.stale;
   };
 }
 

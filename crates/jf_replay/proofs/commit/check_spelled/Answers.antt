@@ -38,7 +38,7 @@ pub returns-in_default-clause-unsound : goal.returns-in_default-clause-unsound
 returns-in_default-clause-unsound g c = λ is d tail spelled e goes after.
     let dir = c.args.directory.now in
     let same = sound-bytes c.kept_is_spelled.ensures c.args.format dir c.in_ok-next.next c.know.ensures.sound c.know.ensures.read.keys d spelled goes after (c.in_ok-next.ensures.landing d tail spelled e) in
-    c.in_ok-rest.ensures.refused (ap (λ o. Ok o) c.in_default.is) tail (e ∙ ap (λ (b : List ℕ). b ++ tail) (same ∙ ap (commit_bytes c.args.format) (sym c.landing-3.ensures)))
+    c.in_ok-rest.ensures.none (ap (λ o. Ok o) c.in_default.is) tail (e ∙ ap (λ (b : List ℕ). b ++ tail) (same ∙ ap (commit_bytes c.args.format) (sym c.landing-3.ensures)))
 
 pub returns-clause-taken : goal.returns-clause-taken
 returns-clause-taken g c =

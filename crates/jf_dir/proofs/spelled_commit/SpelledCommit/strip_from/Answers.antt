@@ -30,17 +30,17 @@ after_front fmt x y front bytes nodes tail same is left whole =
     append_cancel_left (front_bytes x) nodes _ (ap (λ f. f ++ nodes) (sym is) ∙ sym left ∙ whole ∙ apart fmt x tail)
     ∙ ap (λ (z : Commit). flat_map (fresh_bytes fmt) z.fresh ++ (list_bytes name_bytes z.stale ++ tail)) (sym same)
 
-pub returns-in_default-2-clause-refused : goal.returns-in_default-2-clause-refused
-returns-in_default-2-clause-refused c = λ is tail e.
+pub returns-in_default-2-clause-none : goal.returns-in_default-2-clause-none
+returns-in_default-2-clause-none c = λ is tail e.
     let front : c.as_slice.result.now ≡ front_bytes c.args.self.now = search rules in
-    c.in_ok-names.ensures.refused (ap (λ o. Ok o) c.in_default-2.is) _ (after_front c.args.format c.args.self.now _ _ c.args.bytes.now c.in-Some.nodes.now tail c.self.view_is front c.in-Some.ensures.found e)
+    c.in_ok-names.ensures.none (ap (λ o. Ok o) c.in_default-2.is) _ (after_front c.args.format c.args.self.now _ _ c.args.bytes.now c.in-Some.nodes.now tail c.self.view_is front c.in-Some.ensures.found e)
 
-pub returns-clause-refused : goal.returns-clause-refused
-returns-clause-refused c = λ is tail e.
+pub returns-clause-none : goal.returns-clause-none
+returns-clause-none c = λ is tail e.
     let none : c.strip_front-2.result ≡ None = (let h = is in cc) in
     let front : c.as_slice.result.now ≡ front_bytes c.args.self.now = search rules in
     let left = after_front c.args.format c.args.self.now _ _ c.args.bytes.now c.in-Some.nodes.now tail c.self.view_is front c.in-Some.ensures.found e in
     let there = subst (λ (o : Option (Bor (List ℕ))). IfSome o (λ r. c.in-Some.nodes.now ≡ flat_map (fresh_bytes c.args.format) c.self.inside.fresh ++ r.now)) c.in-Some-2.is c.in_ok-names.ensures.found in
     let names = append_cancel_left (flat_map (fresh_bytes c.args.format) c.self.inside.fresh) _ _ (sym there ∙ left) in
     let own : c.as_slice-3.result.now ≡ list_bytes name_bytes c.args.self.now.stale = search rules in
-    c.strip_front-2.ensures.refused none tail (names ∙ ap (λ b. b ++ tail) (ap (λ (z : Commit). list_bytes name_bytes z.stale) c.self.view_is ∙ sym own))
+    c.strip_front-2.ensures.none none tail (names ∙ ap (λ b. b ++ tail) (ap (λ (z : Commit). list_bytes name_bytes z.stale) c.self.view_is ∙ sym own))
