@@ -3,7 +3,7 @@ use Rattle.std.proofs.Common.{◌≡◌, ◌⊎◌, false, inl, inr, ℕ, List, 
 use Rattle.std.specs.Prelude.{slice_get}
 use Rattle.std.proofs.lemmas.List.{length-append}
 use Rattle.jf_path.specs.Faults.{HasCause}
-use Rattle.jf_io.specs.declared.piece.TheConstants.{MAX_PIECE}
+use Rattle.jf_io.specs.declared.piece.TheConstants.{USUAL_PIECE}
 use Rattle.jf_io.proofs.FirstLines.{all_first}
 use Rattle.jf_input.specs.Feeds.{TakesLines, ReadsAll, ReadsLinesOf, ReadsFew, HasFed}
 use Rattle.jf_input.specs.declared.feeding.Feeding.{Feeding}
@@ -88,7 +88,7 @@ read_all source source' ls reads input is =
     let r = reads input is in
     ([], r.0, record { taken = input; split = sym (append-nil input); first = all_first input ls r.1; behind = []; lines_are = r.1 ∙ sym (append-nil ls) })
 
-read_before : (source source' : Option (List ℕ)) (ls : List (List ℕ)) (line : List ℕ) → ReadsFew MAX_PIECE source source' (ls ++ line ∷ []) → ReadsLinesOf source source' ls
+read_before : (source source' : Option (List ℕ)) (ls : List (List ℕ)) (line : List ℕ) → ReadsFew USUAL_PIECE source source' (ls ++ line ∷ []) → ReadsLinesOf source source' ls
 read_before source source' ls line reads input is = let r = reads input is in (r.0, r.1, has_read_first input r.0 ls (line ∷ []) r.2.read)
 
 module _ (old : Engine) (source source' text text' : Option (List ℕ)) where
@@ -100,7 +100,7 @@ module _ (old : Engine) (source source' text text' : Option (List ℕ)) where
   moved : (ls : List (List ℕ)) (mid last : FollowState) → IsUnmoved mid last → FollowsLines old mid.store mid.entries ls → FollowsLines old last.store last.entries ls
   moved ls mid last same f = subst (λ es. FollowsLines old last.store es ls) (sym same.1) (subst (λ (e : Engine). FollowsLines old e mid.entries ls) (sym same.0) f)
 
-  module _ (ls : List (List ℕ)) (mid last : FollowState) (said : List ℕ) (took : TakesLines TakesLandingLine (started old) ls mid said) (line : List ℕ) (same_text : text' ≡ text) (reads : ReadsFew MAX_PIECE source source' (ls ++ line ∷ [])) where
+  module _ (ls : List (List ℕ)) (mid last : FollowState) (said : List ℕ) (took : TakesLines TakesLandingLine (started old) ls mid said) (line : List ℕ) (same_text : text' ≡ text) (reads : ReadsFew USUAL_PIECE source source' (ls ++ line ∷ [])) where
     follows : FollowsLines old mid.store mid.entries ls
     follows = lines_followed ls old mid said took
 
@@ -209,7 +209,7 @@ module _ (old : Engine) (source source' text text' : Option (List ℕ)) where
   -- ---- the lines of a source were fed to what shows such a state
   module _ {M : Type 0} (shown : M → FollowState) (first last : M) (is_started : shown first ≡ started old) where
     abbrev FedBy : Feeding FollowStop → Type 0
-    FedBy how = HasFed (λ m line n r. TakesLandingLine (shown m) line (shown n) r) (λ m n r. EndsLandingLines (shown m) (shown n) r) (λ m n. Unit {0}) MAX_PIECE how first last source source' None None
+    FedBy how = HasFed (λ m line n r. TakesLandingLine (shown m) line (shown n) r) (λ m n r. EndsLandingLines (shown m) (shown n) r) (λ m n. Unit {0}) USUAL_PIECE how first last source source' None None
 
     took_of : (how : Feeding FollowStop) (f : FedBy how) → TakesLines TakesLandingLine (started old) f.done (shown f.mid) f.said
     took_of how f = subst (λ (s : FollowState). TakesLines TakesLandingLine s f.done (shown f.mid) f.said) is_started (took_shown shown f.done first f.mid f.said f.took)
@@ -223,7 +223,7 @@ module _ (old : Engine) (source source' text text' : Option (List ℕ)) where
     fed_stopped why f same = elim f.ended [
       | inl b ↦ absurd b.2
       | inr e ↦ elim e [
-        | inl l ↦ stops f.done (shown f.mid) (shown last) f.said (took_of (feeding.Stopped why) f) l.0 same (subst (λ (later : List (List ℕ)). ReadsFew MAX_PIECE source source' (f.done ++ l.0 ∷ later)) l.2.2 l.3) why l.2.0
+        | inl l ↦ stops f.done (shown f.mid) (shown last) f.said (took_of (feeding.Stopped why) f) l.0 same (subst (λ (later : List (List ℕ)). ReadsFew USUAL_PIECE source source' (f.done ++ l.0 ∷ later)) l.2.2 l.3) why l.2.0
         | inr a ↦ absurd a.0.0
       ]
     ]

@@ -2,7 +2,7 @@
 use Rattle.std.specs.Prelude.{◌≡◌, ◌⊎◌, ℕ, ◌+◌, List, [], ◌∷◌, ◌++◌, length, map, slice_get, Option, Some, None, codes, decimal}
 use Rattle.hex.specs.Hex.{encode_lower}
 use Rattle.jf_text.specs.Words.{line_text}
-use Rattle.jf_io.specs.declared.piece.TheConstants.{MAX_PIECE}
+use Rattle.jf_io.specs.declared.piece.TheConstants.{USUAL_PIECE}
 use Rattle.jf_io.specs.Sink.{IsCutShort}
 use Rattle.jf_input.specs.Feeds.{Appends, ReadsAll, ReadsWhole, ReadsLinesOf, ReadsFew}
 use Rattle.jf_model.specs.Versions.{Versions, root_of}
@@ -57,7 +57,7 @@ pub record FollowsInput (old new : Engine) (es : List Entry) (rest rest' : Optio
 -- line at is bad, and these lines were read: up to it, and fewer bytes than a piece after it; or it is the line that is missing
 -- after all lines of the input
 abbrev pub ReadsToBadLine : ℕ → List (List ℕ) → Option (List ℕ) → Option (List ℕ) → Type 0
-ReadsToBadLine at ls rest rest' = ((length ls ≡ at) × ReadsFew MAX_PIECE rest rest' ls) ⊎ ((at ≡ length ls + 1) × ReadsAll rest rest' ls)
+ReadsToBadLine at ls rest rest' = ((length ls ≡ at) × ReadsFew USUAL_PIECE rest rest' ls) ⊎ ((at ≡ length ls + 1) × ReadsAll rest rest' ls)
 
 -- it stopped at a line, which is the first bad one, and at no later one. The blocks before it were followed
 pub record EndsAtBadLine (old new : Engine) (es : List Entry) (rest rest' : Option (List ℕ)) (at : ℕ) : Type 0 where
@@ -72,7 +72,7 @@ pub record ReadsToBlock (ls : List (List ℕ)) (before : List LandingBlock) (at 
   pub whole : whole_blocks ls ≡ before ++ block ∷ []
   pub numbered : slice_get (landing_blocks ls).whole (length before) ≡ Some (at, block)
   pub last : length ls ≡ at + length block.batch
-  pub soon : ReadsFew MAX_PIECE rest rest' ls
+  pub soon : ReadsFew USUAL_PIECE rest rest' ls
 
 -- it stopped at the block whose first line has this number: the table refuses it. Those before it were followed, and nothing else
 -- was changed

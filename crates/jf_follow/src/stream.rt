@@ -13,7 +13,7 @@ use jf_disk::Disk;
 use jf_engine::Engine;
 use jf_hash::Hash;
 use jf_input::{Feeding, feed};
-use jf_io::{MAX_PIECE, Nowhere, Sink, Source, put_all};
+use jf_io::{Nowhere, Sink, Source, USUAL_PIECE, put_all};
 use jf_join::{Gate, Workers};
 use jf_lead::{LandingFault, LandingReader};
 use jf_model::Ledger;
@@ -85,7 +85,7 @@ pub fn follow_stream<S: Source, K: Sink, D: Disk, H: Threads + Sync, G: Gate>(
     { follow_line(rt, alloc, following, line, workers, gate) };
     let mut machine = LineFollower { following, step };
     let mut nowhere = Nowhere;
-    let fed = feed(alloc, &mut machine, source, &mut nowhere, MAX_PIECE);
+    let fed = feed(alloc, &mut machine, source, &mut nowhere, USUAL_PIECE);
     let LineFollower { following, step: _ } = machine;
     let how = how_ended(alloc, fed, &following, sink);
     let Following {

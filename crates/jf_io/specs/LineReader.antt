@@ -1,6 +1,7 @@
 -- Lines of input: what ends a line, how far a search for its end has come, how much is held, and what is held of a long line.
 use Rattle.std.specs.Prelude.{◌≡◌, ℕ, ◌+◌, ◌<◌, ◌≤◌, Bool, ◌==◌, List, ◌++◌, length, drop, Option, Some}
 use Rattle.std.specs.List.{position_or_len, after_first}
+use Rattle.jf_io.specs.declared.piece.TheConstants.{MAX_PIECE}
 
 -- this byte is a line feed
 abbrev pub is_line_feed : ℕ → Bool
@@ -16,6 +17,12 @@ pub record IsSearched (bytes : List ℕ) (start searched : ℕ) : Type 0 where
 pub record HoldsFew (bytes : List ℕ) (start limit piece : ℕ) : Type 0 where
   pub small : length bytes ≤ limit + 1 + piece
   pub few : length (after_first is_line_feed (drop start bytes)) < piece
+
+-- a piece is at most `MAX_PIECE`, and no more than a piece is asked for, but at least a byte
+pub record AsksFew (piece most : ℕ) : Type 0 where
+  pub small : piece ≤ MAX_PIECE
+  pub least : 1 ≤ most
+  pub within : most ≤ piece
 
 -- what a reader holds: `bytes`, the most bytes of a line that is held whole, and the most bytes of a piece of input
 pub record ReaderState : Type 0 where

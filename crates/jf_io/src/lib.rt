@@ -27,7 +27,7 @@ pub use line_reader::LineReader;
 pub use mem_sink::MemSink;
 pub use mem_source::MemSource;
 pub use nowhere::Nowhere;
-pub use piece::{FetchFault, MAX_PIECE, append_piece};
+pub use piece::{FetchFault, MAX_PIECE, USUAL_PIECE, append_piece};
 pub use sink::{Sink, put_all};
 pub use source::Source;
 pub use std_sink::StdSink;

@@ -5,15 +5,16 @@ ghost use Rattle.jf_path.specs.Faults.{HasCause};
 ghost use Rattle.jf_io.specs.LineReader.{is_line_feed, IsSearched, IsShortened, IsFetched};
 
 use crate::line_feed::first_line_feed;
-use crate::piece::{FetchFault, MAX_PIECE, append_piece};
+use crate::piece::{FetchFault, MAX_PIECE, USUAL_PIECE, append_piece};
 use crate::source::Source;
 use std::alloc::Global;
 use std::marker::Model;
 
 /// Holds bytes that were taken from a source, and gives them out a line at a time.
 ///
-/// Input is taken in pieces: one call asks the source for at most `piece` bytes. It is asked only if no whole line is held,
-/// so fewer than `piece` bytes are held after the first line.
+/// Input is taken in pieces: one call asks the source for at most `piece` bytes, and for more than `USUAL_PIECE` only if it has given
+/// many before, and never again once it gave no more than that. It is asked only if no whole line is held, so fewer than
+/// `piece` bytes are held after the first line.
 ///
 /// A line of at most `limit` bytes is held whole. Of a longer line more than `limit` bytes from its front are held, and
 /// the rest may be dropped as it comes. So at most `limit` + 1 bytes and one piece are held, whatever a line's length.
@@ -28,18 +29,19 @@ pub struct LineReader {
     limit: usize,
     // the most bytes that one call asks a source for
     piece: usize,
+    // the most that one asks for from now on, since a source may have given fewer
+    most: usize,
 }
 
 impl Model for LineReader {
-    ghost use Rattle.std.specs.Prelude.{◌≤◌, drop};
-    ghost use Rattle.jf_io.specs.declared.piece.TheConstants.{MAX_PIECE};
-    ghost use Rattle.jf_io.specs.LineReader.{ReaderState, IsSearched, HoldsFew};
+    ghost use Rattle.std.specs.Prelude.{drop};
+    ghost use Rattle.jf_io.specs.LineReader.{ReaderState, IsSearched, HoldsFew, AsksFew};
 
     ghost Value = { ReaderState };
 
     ghost view = { λ r. record { limit = r.limit; piece = r.piece; bytes = drop r.start r.bytes.items } };
 
-    ghost invariant = { λ r. IsSearched r.bytes.items r.start r.searched × HoldsFew r.bytes.items r.start r.limit r.piece × (r.piece ≤ MAX_PIECE) };
+    ghost invariant = { λ r. IsSearched r.bytes.items r.start r.searched × HoldsFew r.bytes.items r.start r.limit r.piece × AsksFew r.piece r.most };
 }
 
 impl LineReader {
@@ -57,6 +59,7 @@ impl LineReader {
             searched: 0,
             limit,
             piece,
+            most: piece,
         }
     }
 
@@ -192,10 +195,40 @@ impl LineReader {
         ensures cause { result ≡ Err FetchFault.ReadFault → HasCause (S.faults source.old) (S.faults source.new) }
         ensures counts { S.faults source.old ≤ S.faults source.new }
     {
+        let asked = bytes_to_ask(self.start, self.most);
         drop_front(&mut self.bytes, self.start);
         self.searched -= self.start;
         self.start = 0;
-        append_piece(&mut self.bytes, source, self.piece)
+        let given = append_piece(&mut self.bytes, source, asked)?;
+        self.most = most_to_ask(self.most, asked, given);
+        Ok(given)
+    }
+}
+
+// How many bytes to ask a source for: as many as may be if the lines given out since the last time had many, for then it gives
+// much at once; else at most `USUAL_PIECE`, since what is asked for is zeroed first.
+fn bytes_to_ask(given_out: usize, most: usize) -> usize
+    requires { 1 ≤ most }
+    ensures least { 1 ≤ result }
+    ensures most { result ≤ most }
+{
+    if given_out < USUAL_PIECE / 2 {
+        most.min(USUAL_PIECE)
+    } else {
+        most
+    }
+}
+
+// The most bytes to ask a source for from now on: `USUAL_PIECE` if it was asked for more, and gave no more than that.
+fn most_to_ask(most: usize, asked: usize, given: usize) -> usize
+    requires { 1 ≤ most }
+    ensures least { 1 ≤ result }
+    ensures most { result ≤ most }
+{
+    if asked > USUAL_PIECE && given <= USUAL_PIECE {
+        most.min(USUAL_PIECE)
+    } else {
+        most
     }
 }
 

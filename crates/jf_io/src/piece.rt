@@ -4,8 +4,11 @@ ghost use Rattle.jf_path.specs.Faults.{HasCause};
 
 use crate::source::Source;
 
+/// The bytes that one call asks a source for where more are of no use: what a pipe of Linux holds by default.
+pub const USUAL_PIECE: usize = 65_536;
+
 /// The most bytes that one call may ask a source for.
-pub const MAX_PIECE: usize = 65_536;
+pub const MAX_PIECE: usize = 262_144;
 
 /// Why no input was taken.
 #[derive(Clone, Copy, Debug, PartialEq, Eq)]

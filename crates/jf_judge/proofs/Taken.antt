@@ -1,7 +1,7 @@
 -- What was taken of an input, and what of it is still to come.
 use Rattle.std.proofs.Common.{◌≡◌, ℕ, ◌+◌, ◌<◌, ◌≤◌, List, [], ◌++◌, Option, Some, None, length, refl, sym, ap, subst, ◌∙◌, inl, inr, append-nil, length-append, arith}
 use Rattle.std.proofs.lemmas.Bool.{cases_lt}
-use Rattle.jf_io.specs.declared.piece.TheConstants.{MAX_PIECE}
+use Rattle.jf_io.specs.declared.piece.TheConstants.{USUAL_PIECE}
 use Rattle.jf_ask.specs.Lookups.{lookup, IsSoundLookup, HonestBlocksAreBelieved}
 use Rattle.jf_judge.specs.JudgedReplies.{max_reply, HasTaken, TakesReply, WritesLookup, HasJudgedReply}
 use Rattle.jf_judge.specs.declared.judging.Judged.{Judged}
@@ -12,7 +12,7 @@ pub taken-none : (rest : Option (List ℕ)) → HasTaken rest rest []
 taken-none None = record { input = []; left = []; split = refl; told = λ text e. absurd (cc); few = omega arith }
 taken-none (Some t) = record { input = t; left = t; split = refl; told = λ text e. (cc, refl); few = omega arith }
 
-pub taken-more : (rest rest' rest'' : Option (List ℕ)) (bytes bytes' : List ℕ) → HasTaken rest rest' bytes → ((to_come : List ℕ) → rest' ≡ Some to_come → (left : List ℕ) × (rest'' ≡ Some left) × (bytes' ++ left ≡ bytes ++ to_come)) → length bytes' ≤ max_reply + MAX_PIECE → HasTaken rest rest'' bytes'
+pub taken-more : (rest rest' rest'' : Option (List ℕ)) (bytes bytes' : List ℕ) → HasTaken rest rest' bytes → ((to_come : List ℕ) → rest' ≡ Some to_come → (left : List ℕ) × (rest'' ≡ Some left) × (bytes' ++ left ≡ bytes ++ to_come)) → length bytes' ≤ max_reply + USUAL_PIECE → HasTaken rest rest'' bytes'
 taken-more None rest' rest'' bytes bytes' h more few = record { input = bytes'; left = []; split = append-nil bytes'; told = λ text e. absurd (cc); few = few }
 taken-more (Some t) rest' rest'' bytes bytes' h more few =
     let now = h.told t refl in

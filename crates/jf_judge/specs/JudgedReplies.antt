@@ -1,7 +1,7 @@
 -- What is taken from a source and written into a sink if a reply to `prove` is judged.
 use Rattle.std.specs.Prelude.{◌≡◌, ◌≢◌, ℕ, ◌+◌, ◌*◌, ◌≤◌, List, [], ◌∷◌, ◌++◌, length, Option, Some, None, option_map, Result, Ok, Err, codes, decimal}
 use Rattle.jf_io.specs.Sink.{IsCutShort}
-use Rattle.jf_io.specs.declared.piece.TheConstants.{MAX_PIECE}
+use Rattle.jf_io.specs.declared.piece.TheConstants.{USUAL_PIECE}
 use Rattle.jf_text.specs.Words.{line_text, max_line, value_word}
 use Rattle.jf_ask.specs.Lookups.{lookup, lookup_number, IsSoundLookup, IsFairLookup}
 use Rattle.jf_ask.specs.declared.lookup.LookupFault.{LookupFault}
@@ -34,7 +34,7 @@ pub record HasTaken (rest rest' : Option (List ℕ)) (taken : List ℕ) : Type 0
   pub left : List ℕ
   pub split : taken ++ left ≡ input
   pub told : (text : List ℕ) → rest ≡ Some text → (text ≡ input) × (rest' ≡ Some left)
-  pub few : length taken ≤ max_reply + MAX_PIECE
+  pub few : length taken ≤ max_reply + USUAL_PIECE
 
 -- so it was, up to the end of the input unless it is longer than any proof block
 abbrev pub TakesReply : Option (List ℕ) → Option (List ℕ) → List ℕ → Type 0

@@ -4,7 +4,7 @@ use Rattle.std.specs.Prelude.{OnOk, IfErr}
 use Rattle.std.proofs.lemmas.Bool.{ltb-true}
 use Rattle.std.proofs.lemmas.List.{length-append}
 use Rattle.jf_io.specs.Lines.{lines}
-use Rattle.jf_io.specs.declared.piece.TheConstants.{MAX_PIECE}
+use Rattle.jf_io.specs.declared.piece.TheConstants.{USUAL_PIECE}
 use Rattle.jf_text.specs.Words.{name_of, is_long}
 use Rattle.jf_text.proofs.HexText.{bytes_within-many}
 use Rattle.jf_input.specs.Feeds.{front_of_line, TakesLines, ReadsAll, ReadsFew, HasFed}
@@ -124,7 +124,7 @@ names_from-took_refused s next (l ∷ ls) text line behind took refused =
 -- ---- an input
 module _ (start last : NamesSoFar) (begun : start ≡ no_names) (source source' text text' : Option (List ℕ)) where
   abbrev Read : Feeding NamesFault → Type 0
-  Read how = HasFed TakesName EndsNames (λ m n. Unit {0}) MAX_PIECE how start last source source' text text'
+  Read how = HasFed TakesName EndsNames (λ m n. Unit {0}) USUAL_PIECE how start last source source' text text'
 
   taken_first : (how : Feeding NamesFault) (f : Read how) → TakesLines TakesName no_names f.done f.mid f.said
   taken_first how f = subst (λ (s : NamesSoFar). TakesLines TakesName s f.done f.mid f.said) begun f.took
@@ -174,7 +174,7 @@ module _ (start last : NamesSoFar) (begun : start ≡ no_names) (source source' 
           let one_more : length (f.done ++ l.0 ∷ []) ≡ length f.done + 1 = length-append f.done (l.0 ∷ []) in
           let same : length (f.done ++ l.0 ∷ []) ≡ at = omega arith in
           let later : l.1 ≡ [] = l.2.2 in
-          (f.done ++ l.0 ∷ [], same, subst (λ (ls : List (List ℕ)). ReadsFew MAX_PIECE source source' (f.done ++ l.0 ∷ ls)) later l.3))
+          (f.done ++ l.0 ∷ [], same, subst (λ (ls : List (List ℕ)). ReadsFew USUAL_PIECE source source' (f.done ++ l.0 ∷ ls)) later l.3))
       | inr a ↦ absurd a.0.0
     ]
   ]

@@ -2,7 +2,7 @@
 use Rattle.std.specs.Prelude.{◌≡◌, ◌⊎◌, ℕ, ◌≤◌, List, [], length, Option, Some, Result, Ok, Err}
 use Rattle.jf_model.specs.Versions.{Versions, map_of}
 use Rattle.jf_io.specs.Sink.{IsCutShort}
-use Rattle.jf_io.specs.declared.piece.TheConstants.{MAX_PIECE}
+use Rattle.jf_io.specs.declared.piece.TheConstants.{USUAL_PIECE}
 use Rattle.jf_input.specs.Feeds.{Appends, ReadsFew}
 use Rattle.jf_names.specs.Names.{names_of, many_text}
 use Rattle.jf_names.specs.declared.fault.NamesFault.{NamesFault}
@@ -22,7 +22,7 @@ IsRefusedAt at rest = (input : List ℕ) → rest ≡ Some input → names_of in
 
 -- of the input, if it is known, the lines up to this one were read, and less than a piece beyond it
 abbrev pub ReadsToRefusal : ℕ → Option (List ℕ) → Option (List ℕ) → Type 0
-ReadsToRefusal at rest rest' = (ls : List (List ℕ)) × (length ls ≡ at) × ReadsFew MAX_PIECE rest rest' ls
+ReadsToRefusal at rest rest' = (ls : List (List ℕ)) × (length ls ≡ at) × ReadsFew USUAL_PIECE rest rest' ls
 
 -- exactly if the version isn't inside, nothing was read or written. Otherwise the input was read before anything was written: to its
 -- end, or up to the line that is refused and less than a piece beyond it; then the block of its names, or a front of it if the sink failed

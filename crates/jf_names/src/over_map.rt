@@ -10,7 +10,7 @@ use crate::fault::NamesFault;
 use crate::name_reader::NameReader;
 use crate::names::NameMap;
 use jf_input::{Feeding, feed};
-use jf_io::{IoFailed, MAX_PIECE, Nowhere, Sink, Source, put_all};
+use jf_io::{IoFailed, Nowhere, Sink, Source, USUAL_PIECE, put_all};
 use jf_node::Snapshot;
 use std::alloc::Global;
 
@@ -48,7 +48,7 @@ fn read_names<S: Source>(alloc: Global, source: &mut S) -> Result<NameMap, Names
 {
     let mut reader = NameReader::new(alloc);
     let mut nowhere = Nowhere;
-    match feed(alloc, &mut reader, source, &mut nowhere, MAX_PIECE) {
+    match feed(alloc, &mut reader, source, &mut nowhere, USUAL_PIECE) {
         Feeding::Done => Ok(reader.end()),
         Feeding::ReadFault => Err(NamesFault::ReadFault),
         Feeding::WriteFault => unreachable!(),

@@ -4,10 +4,10 @@ ghost use Rattle.jf_path.specs.Faults.{HasCause};
 ghost use Rattle.jf_serve.specs.SessionScripts.{max_input};
 
 use crate::reading::{InputFault, MAX_INPUT};
-use jf_io::{MAX_PIECE, Source, append_piece};
+use jf_io::{Source, USUAL_PIECE, append_piece};
 use std::alloc::Global;
 
-/// The bytes of an input. They are taken in pieces of at most `MAX_PIECE` bytes, until the input ends or more than
+/// The bytes of an input. They are taken in pieces of at most `USUAL_PIECE` bytes, until the input ends or more than
 /// `MAX_INPUT` bytes were taken.
 pub(crate) fn read_to_end<S: Source>(alloc: Global, source: &mut S) -> Result<Vec<u8>, InputFault>
     ensures small { IfOk result (λ bytes. length bytes.items ≤ max_input) }
@@ -17,7 +17,7 @@ pub(crate) fn read_to_end<S: Source>(alloc: Global, source: &mut S) -> Result<Ve
     ensures counts { S.faults source.old ≤ S.faults source.new }
 {
     let mut bytes = Vec::new(alloc);
-    while append_piece(&mut bytes, source, MAX_PIECE)? > 0 {
+    while append_piece(&mut bytes, source, USUAL_PIECE)? > 0 {
         if bytes.len() as u64 > MAX_INPUT {
             return Err(InputFault::Full);
         }

@@ -1,7 +1,7 @@
 // Inputs as long as no proof block is.
 use crate::replies::{HONEST, TWO, parts_in_a_row};
 use jf_ask::LookupFault;
-use jf_io::{MAX_PIECE, MemSink, MemSource, Source};
+use jf_io::{MemSink, MemSource, Source, USUAL_PIECE};
 use jf_judge::{Judged, judge_reply};
 use jf_path::{Bytes, Memory};
 use jf_text::hash_of;
@@ -32,7 +32,7 @@ fn is_refused(alloc: Global, input: Bytes, taken: u64) -> Result<(), Fail> {
     let Some(root) = hash_of(TWO.as_bytes()) else {
         return Err(Fail::new("this is no root"));
     };
-    let mut source = MemSource::new(input, MAX_PIECE, Vec::new(alloc));
+    let mut source = MemSource::new(input, USUAL_PIECE, Vec::new(alloc));
     let mut sink = MemSink::new(alloc, 100, 100, Vec::new(alloc))?;
     let how = judge_reply(alloc, &root, b"a", &mut source, &mut sink);
     if how == Judged::Refused(LookupFault::NoBlock)

@@ -246,3 +246,45 @@ fn takes_no_more_than_a_piece_beyond_a_line(rt: HostRuntime) -> Result<(), Fail>
     }
     Ok(())
 }
+
+// A text of so many lines of 16 bytes, each with its line feed.
+fn many_lines(alloc: Global, count: usize) -> Result<Bytes, Fail> {
+    let mut text = Bytes::new(alloc);
+    for _ in 0..count {
+        text.append(b"fifteen letters\n")?;
+    }
+    Ok(text)
+}
+
+// How many bytes a source that gives at most `piece` at a time has given once so many lines were taken.
+fn given_after(alloc: Global, text: &[u8], piece: usize, lines: usize) -> Result<u64, Fail> {
+    let mut source = source_of(alloc, text, piece, u64::MAX)?;
+    let mut reader = LineReader::new(alloc, LIMIT, MAX_PIECE);
+    for _ in 0..lines {
+        if !goes_on_with(&mut reader, &mut source, b"fifteen letters") {
+            return Ok(0);
+        }
+    }
+    Ok(source.taken_count())
+}
+
+// The most that a source gives at a time, how many lines are taken, and how many bytes it has given then.
+const GIVEN: &[(usize, usize, u64)] = &[
+    (500_000, 1, 65_536),
+    (500_000, 4_096, 65_536),
+    (500_000, 4_097, 65_536 + 262_144),
+    (20_000, 1_250, 20_000),
+    (20_000, 1_251, 40_000),
+    (65_536, 4_097, 131_072),
+    (65_536, 8_193, 196_608),
+];
+
+#[test]
+fn asks_for_more_of_who_gives_much(rt: HostRuntime) -> Result<(), Fail> {
+    let text = many_lines(rt.alloc(), 25_000)?;
+    for (piece, lines, given) in GIVEN {
+        let found = given_after(rt.alloc(), text.as_slice(), *piece, *lines)?;
+        assert!(rt; found == *given, "{lines} lines by {piece}");
+    }
+    Ok(())
+}
