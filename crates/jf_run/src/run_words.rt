@@ -25,8 +25,8 @@ use std::thread::Threads;
 ///
 /// - `run` opens the store on the disk, and answers the script of the source into the sink, as the only session of the
 ///   store. `--workers N`, 1 to 64, says how many threads may work at once on the pieces of a landing, also of one that
-///   the opening reads; unless N is 1, the values of a large batch are hashed, and many lines at hand that read the head
-///   are answered, by several threads too. The gate is notified of each piece of a landing that the script asks for, before
+///   the opening reads; unless N is 1, the values of a large batch are hashed, many lines at hand that read the head are
+///   answered, and many that are puts are read, by several threads too. The gate is notified of each piece of a landing that the script asks for, before
 ///   the piece begins. Neither changes the output.
 /// - `resume VERSION ROOT` opens the store, and goes on as `run` if the recorded root of the version is this one. Otherwise it
 ///   ends with `Elsewhere`, and has done nothing. It begins files without a record only if a new store has that root, as version

@@ -63,7 +63,7 @@ module _ (start : Start) (old : Session) (line out out' : List ℕ) (is : old.pa
   pub DoesLine-replied : (new : Session) (text : List ℕ) → new.over ≡ false → AreEvents start new.pass.seen → out' ≡ out ++ text → RepliesWith start old line new text → DoesLine old line out (Ok tt) new out'
   DoesLine-replied new text goes events appended replied = (text, appended, record { start = start; start_is = is; begun = begun; over = goes; events = events; makes = replied })
 
-  makes_stopped : (new : Session) (why : Stop) → StopsAt start old new line why → Makes start old line new (Err why)
+  pub makes_stopped : (new : Session) (why : Stop) → StopsAt start old new line why → Makes start old line new (Err why)
   makes_stopped new stop.DiskFault t = t
   makes_stopped new stop.Broken t = t
   makes_stopped new stop.Memory t = inl t

@@ -34,5 +34,4 @@ pub mod LedLines
 pub mod LedFed
 pub mod LeadLaws
 pub mod HeadReplies
-pub mod ReplySizes
-pub mod PreparedParts
+pub mod PutLines

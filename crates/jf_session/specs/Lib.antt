@@ -22,6 +22,8 @@ pub use Rattle.jf_evidence.specs.Ranges
 pub use Rattle.jf_text.specs.Words
 pub use Rattle.jf_input.specs.Feeds
 pub use Rattle.jf_input.specs.FeedsThrough
+pub use Rattle.jf_prepare.specs.PreparedLines
+pub use Rattle.jf_prepare.specs.PreparedPuts
 pub use Rattle.jf_script.specs.Bounds
 pub use Rattle.jf_script.specs.Replies
 pub use Rattle.jf_blocks.specs.Blocks

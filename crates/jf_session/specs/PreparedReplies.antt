@@ -1,5 +1,5 @@
 -- Replies to lines that read the head, made before the lines are taken.
-use Rattle.std.specs.Prelude.{◌≡◌, ℕ, ◌≤◌, false, List, [], ◌∷◌, ◌++◌, length, take, drop, Some}
+use Rattle.std.specs.Prelude.{◌≡◌, ℕ, false, List, ◌++◌, length, Some}
 use Rattle.std.specs.List.{AllByRecursion}
 use Rattle.jf_hash.specs.Maps.{Map}
 use Rattle.jf_model.specs.Versions.{newest}
@@ -43,21 +43,6 @@ ArePreparedFor m n rs = AllByRecursion (λ r. IsPreparedFor m n r.0 r.1) rs
 -- they were prepared over all that the pass has seen
 abbrev pub ArePreparedAt : Pass → List (List ℕ × List ℕ) → Type 0
 ArePreparedAt p rs = (start : Start) → p.start ≡ Some start → ArePreparedFor (newest (state_after_events start p.seen).all) (length (seen_by p)) rs
-
--- ---- lines and texts in two buffers
--- the lines and texts of these sizes that stand one after another in two buffers
-abbrev pub sized_replies : List (ℕ × ℕ) → List ℕ → List ℕ → List (List ℕ × List ℕ)
-sized_replies [] lines texts = []
-sized_replies (s ∷ ss) lines texts = (take s.0 lines, take s.1 texts) ∷ sized_replies ss (drop s.0 lines) (drop s.1 texts)
-
--- the sizes are those of all that stands in the buffers
-abbrev pub AreSizesOf : List (ℕ × ℕ) → List ℕ → List ℕ → Type 0
-AreSizesOf [] lines texts = (lines ≡ []) × (texts ≡ [])
-AreSizesOf (s ∷ ss) lines texts = (s.0 ≤ length lines) × (s.1 ≤ length texts) × AreSizesOf ss (drop s.0 lines) (drop s.1 texts)
-
--- so it is with the sizes from one place on, and with the buffers from two others on
-abbrev pub AreSizesFrom : ℕ → ℕ → ℕ → List (ℕ × ℕ) → List ℕ → List ℕ → Type 0
-AreSizesFrom taken line_start text_start sizes lines texts = (taken ≤ length sizes) × (line_start ≤ length lines) × (text_start ≤ length texts) × AreSizesOf (drop taken sizes) (drop line_start lines) (drop text_start texts)
 
 -- ---- a look
 -- a session has looked at the head: its pass may have seen more, none of it its own, and no mark

@@ -4,11 +4,12 @@ ghost use Rattle.std.specs.List.{AllByRecursion};
 ghost use Rattle.jf_hash.specs.Maps.{Map};
 ghost use Rattle.jf_session.specs.PreparedReplies.{AsksHead, ArePreparedFor};
 
-use crate::prepared_reply::{PART, PreparedReplies, head_question, prepare_part};
+use crate::prepared_reply::{PART, head_question, prepare_part};
 use jf_io::first_line_feed;
 use jf_join::{FreeGate, Workers, join_pieces};
 use jf_node::Snapshot;
 use jf_path::Memory;
+use jf_prepare::PreparedLines;
 use jf_script::Question;
 use jf_text::{is_word, split_word};
 use std::alloc::Global;
@@ -56,12 +57,12 @@ pub(crate) fn prepare_run<H: Threads + Sync>(
     seen: u64,
     text: &[u8],
     workers: Workers,
-) -> PreparedReplies
+) -> PreparedLines
     ensures { ArePreparedFor head.now.map seen result }
 {
     match prepare_parts(rt, alloc, head, seen, text, workers) {
         Ok(parts) => join_prepared(alloc, parts),
-        Err(Memory) => PreparedReplies::new(alloc),
+        Err(Memory) => PreparedLines::new(alloc),
     }
 }
 
@@ -73,22 +74,22 @@ fn prepare_parts<H: Threads + Sync>(
     seen: u64,
     text: &[u8],
     workers: Workers,
-) -> Result<Vec<PreparedReplies>, Memory>
+) -> Result<Vec<PreparedLines>, Memory>
     ensures { IfOk result (λ parts. AllByRecursion (λ part. ArePreparedFor head.now.map seen part) parts.items) }
 {
     let parts = parts_of(alloc, text)?;
-    let prepare = |part: &&[u8]| -> PreparedReplies
+    let prepare = |part: &&[u8]| -> PreparedLines
         ensures { ArePreparedFor head.entry.now.map seen result }
     { prepare_part(alloc, head, seen, part) };
     join_pieces(rt, alloc, &parts, workers, &FreeGate, &prepare)
 }
 
 // The replies of all parts, in order; none if there is no memory for all of them.
-fn join_prepared(alloc: Global, parts: Vec<PreparedReplies>) -> PreparedReplies
+fn join_prepared(alloc: Global, parts: Vec<PreparedLines>) -> PreparedLines
     ensures { (m : Map) (n : ℕ) → AllByRecursion (λ part. ArePreparedFor m n part) parts.items → ArePreparedFor m n result }
 {
-    let Ok(mut prepared) = PreparedReplies::with_room_for(alloc, &parts) else {
-        return PreparedReplies::new(alloc);
+    let Ok(mut prepared) = PreparedLines::with_room_for(alloc, &parts) else {
+        return PreparedLines::new(alloc);
     };
     for part in parts {
         if prepared.append(&part).is_err() {

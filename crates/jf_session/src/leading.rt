@@ -13,7 +13,7 @@ use crate::stop::Stop;
 use jf_disk::Disk;
 use jf_history::{End, none_answered};
 use jf_input::{FedThrough, feed_through};
-use jf_io::{MAX_PIECE, Sink, Source};
+use jf_io::{Sink, Source, USUAL_PIECE};
 use jf_join::{Gate, Workers};
 use jf_path::Bytes;
 use jf_store::{Pass, Store};
@@ -78,7 +78,7 @@ pub fn lead<S: Source, K: Sink, D: Disk, H: Threads + Wait + Sync, G: Gate>(
         ensures { DoesLeading session.old line.now told.old result session.new told.new }
     { session.lead_line(rt, alloc, store, line, workers, gate, told) };
     let mut leader = Leader { session, lead };
-    let FedThrough { how, is_cut } = feed_through(alloc, &mut leader, source, sink, MAX_PIECE);
+    let FedThrough { how, is_cut } = feed_through(alloc, &mut leader, source, sink, USUAL_PIECE);
     let end = end_of_feeding(how);
     let Leader { session, lead: _ } = leader;
     let pass = session.end();

@@ -16,6 +16,7 @@ mod looking;
 mod obeying;
 mod pending;
 mod pinning;
+mod prepared_put;
 mod prepared_reply;
 mod preparing;
 mod pruning;

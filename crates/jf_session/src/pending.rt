@@ -1,6 +1,7 @@
 // The commands on what the session keeps for itself. They ask nothing of the store.
-ghost use Rattle.std.specs.Prelude.{◌≡◌, ◌≤◌, length, false};
+ghost use Rattle.std.specs.Prelude.{◌≡◌, ◌≤◌, ℕ, List, length, false};
 ghost use Rattle.jf_path.specs.Limits.{max_value};
+ghost use Rattle.jf_hash.specs.Hashes.{K};
 ghost use Rattle.jf_script.specs.Bounds.{IsBoundedCommand};
 ghost use Rattle.jf_script.specs.declared.command.Command.TheVariants as command;
 ghost use Rattle.jf_script.specs.declared.command.OwnCommand.TheVariants as own_command;
@@ -11,7 +12,7 @@ use crate::session::Session;
 use crate::stop::Stop;
 use jf_disk::Disk;
 use jf_hash::key_of;
-use jf_path::{Bytes, Memory, SharedBytes};
+use jf_path::{Bytes, Key, Memory, SharedBytes};
 use jf_script::{OwnCommand, Refusal, Reply};
 use jf_split::BatchFault;
 use jf_store::Store;
@@ -46,7 +47,22 @@ impl<D: Disk> Session<D> {
             Ok(value) => value,
             Err(Memory) => return Err(Stop::Memory),
         };
-        match self.pending.put(alloc, &key_of(name), value) {
+        self.put_at(alloc, &key_of(name), value)
+    }
+
+    // Answers `put` of a name that has this key, as `put` does.
+    pub(crate) fn put_at(
+        &mut self,
+        alloc: Global,
+        key: &Key,
+        value: SharedBytes,
+    ) -> Result<Reply, Stop>
+        requires over { self.old.over ≡ false }
+        requires short { length value ≤ max_value }
+        ensures pass { self.new.pass ≡ self.old.pass }
+        ensures obeyed { (start : Start) (name : List ℕ) → key.now ≡ K name → IsObeyed start self.old self.new (command.Own (own_command.Put name value)) result }
+    {
+        match self.pending.put(alloc, key, value) {
             Ok(()) => {}
             Err(BatchFault::Full) => return Ok(Reply::No(Refusal::Pending)),
             Err(BatchFault::Memory) => return Err(Stop::Memory),

@@ -30,8 +30,8 @@ pub struct Ran<D: Disk> {
 
 /// Answers the lines of a script (docs/FORMATS.md) from a source into a sink, over a pass of a store that pins nothing and
 /// has seen no fault of the disk, and hands the pass back with how the run ended. A line that asks the store waits for its
-/// turn. A landing takes at most this many workers, and so do many lines at hand that read the head. Input is taken in
-/// pieces of 65,536 bytes. After a fault of the source, the sink or the disk, or out of memory, the run ends.
+/// turn. A landing takes at most this many workers, and so do many lines at hand that read the head, or are puts. Input is
+/// taken in pieces of at most 262,144 bytes. After a fault of the source, the sink or the disk, or out of memory, the run ends.
 ///
 /// While whole lines are at hand that can't change the store, their replies may be gathered. All replies so far are written
 /// before a line is done that may change the store, before more input is asked for, and before the run ends. So a program

@@ -8,6 +8,6 @@ mod folders;
 #[cfg(test)]
 mod gathered;
 #[cfg(test)]
-mod reads_at_hand;
+mod lines_at_hand;
 #[cfg(test)]
 mod runs;

@@ -1,7 +1,7 @@
 use Rattle.std.proofs.Common.{subst}
 use Rattle.std.specs.List.{AllByRecursion}
 use Rattle.jf_session.specs.PreparedReplies.{IsPreparedFor, ArePreparedFor}
-use Rattle.jf_session.proofs.PreparedParts.{All-appended}
+use Rattle.jf_prepare.proofs.Parts.{All-appended}
 use Rattle.jf_session.proofs.ahead.join_prepared.Goals as goal
 
 pub returns-then-is_err : goal.returns-then-is_err

@@ -2,7 +2,7 @@ use Rattle.std.proofs.lemmas.Result.{IfOk-weaker}
 use Rattle.std.specs.List.{AllByRecursion}
 use Rattle.jf_join.proofs.AnswerLaws.{AnswersEach-pairs}
 use Rattle.jf_session.specs.PreparedReplies.{ArePreparedFor}
-use Rattle.jf_session.proofs.PreparedParts.{All-zip}
+use Rattle.jf_prepare.proofs.Parts.{All-zip}
 use Rattle.jf_session.proofs.ahead.prepare_parts.Goals as goal
 
 pub returns : goal.returns

@@ -1,4 +1,5 @@
 use Rattle.std.proofs.Common.{◌≡◌, [], ap, sym, subst, ◌∙◌, rules}
+use Rattle.jf_io.specs.declared.piece.TheConstants.{MAX_PIECE}
 use Rattle.jf_store.specs.Passes.{Pass}
 use Rattle.jf_history.specs.Sessions.{Session, HoldsPins, new_session}
 use Rattle.jf_history.specs.Runs.{HasAnswered, HasRunOver}
@@ -27,7 +28,7 @@ returns-clause-ran g c =
     let store = c.args.store.now in
     let pass = c.args.pass in
     let none : HasAnswered store.start pass (new_session pass) [] [] = c.none_answered.ensures store.start pass c.requires.unmarked (subst HoldsPins c.new-session.ensures c.know_own.ensures.pins) in
-    let r = ran_shown store.start pass c.requires.own.1 none 65536 source source' text text' (λ t. t.session) c.feed.result _ c.feed.new.machine (c.new-preparing.ensures ∙ c.new-session.ensures) c.feed.ensures.fed in
+    let r = ran_shown store.start pass c.requires.own.1 none MAX_PIECE source source' text text' (λ t. t.session) c.feed.result _ c.feed.new.machine (c.new-preparing.ensures ∙ c.new-session.ensures) c.feed.ensures.fed in
     let at_end : HasRunOver c.end_of_feeding-end.result store.start pass c.feed.new.machine.session.pass source source' text text' = subst (λ (e : End). HasRunOver e store.start pass c.feed.new.machine.session.pass source source' text text') (sym c.end_of_feeding-end.ensures) r in
     subst (λ (p : Pass). HasRunOver c.end_of_feeding-end.result store.start pass p source source' text text') (sym c.end-pass.ensures) at_end
 

@@ -1,0 +1,2 @@
+pub mod LineSizes
+pub mod Parts
