@@ -1,12 +1,8 @@
 -- A directory of one snapshot alone has that snapshot's map as its one version.
 use Rattle.std.specs.Prelude.{reverse}
-use Rattle.std.proofs.Common.{nat_cmp, ◌≡◌, refl, sym, ◌∙◌, ap, ℕ, zero, suc, ◌+◌, ◌-◌, ◌≤◌, ◌<◌, ◌^◌, List, [], ◌∷◌, map, length, replicate, cond, arith, true, false, true≢false, Some, None, T}
-use Rattle.std.specs.Cmp.Lexicographic.{slice_cmp}
+use Rattle.std.proofs.Common.{◌≡◌, refl, sym, ◌∙◌, ap, ℕ, ◌+◌, ◌-◌, ◌≤◌, ◌<◌, ◌^◌, List, [], ◌∷◌, map, length, arith, true, Some, None, T}
 use Rattle.std.specs.FinMap.{entries, len, is_sorted}
 use Rattle.std.specs.FinMap as fin
-use Rattle.std.specs.List.{zip}
-use Rattle.std.specs.Option.{is_some}
-use Rattle.std.specs.Ordering.{is_eq}
 use Rattle.jf_path.specs.Keys.{key_cmp}
 use Rattle.jf_hash.specs.Maps.{map_of_entries}
 use Rattle.jf_hash.specs.Roots.{root}
@@ -14,15 +10,12 @@ use Rattle.jf_hash.proofs.MapLaws.{map-from_entries}
 use Rattle.jf_model.specs.Nodes.{Path, is_node, nodes}
 use Rattle.jf_model.specs.Versions.{imported_versions}
 use Rattle.jf_frame.specs.Logs.{appended_record}
-use Rattle.jf_hash.specs.Slots.{Part}
 use Rattle.jf_codec.specs.declared.format.Format.TheVariants as format
 use Rattle.jf_payload.specs.Spelling.{checkpoint_kind, record_bytes}
 use Rattle.jf_payload.specs.declared.records.Record.TheVariants as «record»
-use Rattle.jf_node.specs.LinkValue.{version_among}
 use Rattle.jf_node.specs.SnapshotValue.{SnapshotValue}
 use Rattle.jf_node.specs.Snapshots.{snapshot_version_at, IsSnapshot}
 use Rattle.jf_diff.specs.Landings.{version_in, version_or}
-use Rattle.jf_update.specs.Restored.{IsRestored}
 use Rattle.jf_standing.specs.Named.{NamedNode, not_stale, map_at}
 use Rattle.jf_standing.specs.Standing.{Standing, versions_of, down_from}
 use Rattle.jf_standing.specs.Sound.{IsSound}
@@ -33,6 +26,7 @@ use Rattle.jf_standing.proofs.Floor.{floor-sound, map-floor}
 use Rattle.jf_standing.proofs.Reordered.{moved-versions}
 use Rattle.jf_dir.specs.Directories.{snapshot_standing, standing_by_name}
 use Rattle.jf_dir.proofs.Held.{nodes-alike}
+use Rattle.jf_engine.specs.Imported.{IsImported}
 use Rattle.jf_engine.specs.Kept.{checkpoint_at_start}
 use Rattle.jf_engine.proofs.Records.{nodes-ordered}
 
@@ -58,30 +52,15 @@ module _ (x : SnapshotValue) (snap : IsSnapshot x) (last : x.version < not_stale
   begun-imported : versions_of (snapshot_standing x.version [] x) ≡ imported_versions x.version x.map
   begun-imported = moved-versions format.Two made (nodes_by_name made.nodes) made-sound (nodes-moved format.Two made made-sound) ∙ made-versions
 
--- ---- the versions of the nodes
-one_version : (v : ℕ) (ps : List Path) (n : ℕ) (p : Path) (u : ℕ) → version_among p (zip ps (replicate n v)) ≡ Some u → u ≡ v
-one_version v [] n p u is = absurd (cc)
-one_version v (q ∷ ps) zero p u is = absurd (cc)
-one_version v (q ∷ ps) (suc n) p u is = elim (is_eq (slice_cmp nat_cmp p q)) as (λ b. cond b (Some v) (version_among p (zip ps (replicate n v))) ≡ Some u → u ≡ v) [
-  | true ↦ λ here. let e : Some v ≡ Some u = here in cc
-  | false ↦ λ rest. one_version v ps n p u rest
-] is
-
--- a snapshot that is restored with one version for each node has that version at each node
-restored-versions : (version n : ℕ) (es : List (List ℕ × List ℕ)) (x : SnapshotValue) → IsRestored version es (replicate n version) x → IsSnapshot x → (p : Path) → is_node 0 p (entries x.map) ≡ true → version_in x p ≡ version
-restored-versions version n es x restored snap p node = elim (snapshot_version_at p x) as (λ o. snapshot_version_at p x ≡ o → version_or o ≡ version) [
-  | None ↦ λ is. absurd (true≢false (sym node ∙ sym (snap.versioned p) ∙ ap is_some is))
-  | Some u ↦ λ is. one_version version (map (λ (y : Path × Part). y.0) (nodes x.map)) n p u (ap (version_among p) (sym restored.versions) ∙ is)
-] refl
-
--- the directory of such a snapshot holds the standing that is imported
-pub restored-standing : (version n : ℕ) (es : List (List ℕ × List ℕ)) (x : SnapshotValue) (d : Standing) → IsRestored version es (replicate n version) x → IsSnapshot x → T (is_sorted key_cmp es)
-    → d ≡ snapshot_standing version [] x → d ≡ standing_by_name (imported_standing format.Two version (map_of_entries es))
-restored-standing version n es x d restored snap sorted is =
-    let same : x.map ≡ map_of_entries es = map-from_entries x.map (map_of_entries es) (restored.same ∙ sym (fin.entries-from_sorted key_cmp es sorted)) in
+-- ---- what is imported
+-- the directory of the snapshot of entries holds the standing that is imported
+pub imported-standing : (version : ℕ) (es : List (List ℕ × List ℕ)) (x : SnapshotValue) (d : Standing) → IsImported version es x → T (is_sorted key_cmp es) → d ≡ snapshot_standing version [] x
+    → d ≡ standing_by_name (imported_standing format.Two version (map_of_entries es))
+imported-standing version es x d imported sorted is =
+    let same : x.map ≡ map_of_entries es = map-from_entries x.map (map_of_entries es) (imported.same ∙ sym (fin.entries-from_sorted key_cmp es sorted)) in
     is
-    ∙ ap (λ (ns : List NamedNode). standing_by_name record { base = version; floor = x.version; head = x.version; roots = root x.map ∷ []; nodes = ns }) (nodes-alike x.map (version_in x) (λ path. version) (restored-versions version n es x restored snap))
-    ∙ ap (λ v. standing_by_name record { base = version; floor = v; head = v; roots = root x.map ∷ []; nodes = map (node_of format.Two (λ path. version)) (nodes x.map) }) restored.version
+    ∙ ap (λ (ns : List NamedNode). standing_by_name record { base = version; floor = x.version; head = x.version; roots = root x.map ∷ []; nodes = ns }) (nodes-alike x.map (version_in x) (λ path. version) imported.each)
+    ∙ ap (λ v. standing_by_name record { base = version; floor = v; head = v; roots = root x.map ∷ []; nodes = map (node_of format.Two (λ path. version)) (nodes x.map) }) imported.version
     ∙ ap (λ m. standing_by_name (imported_standing format.Two version m)) same
 
 -- a standing in the order of names has the checkpoint of the one that was put in order
@@ -90,16 +69,15 @@ ordered-checkpoint g s t is read sound =
     let same : nodes_by_name s.nodes ≡ nodes_by_name t.nodes = nodes-ordered s read sound ∙ ap (λ (z : Standing). z.nodes) is in
     λ i. appended_record 0 (checkpoint_kind format.Two) (record_bytes format.Two («record».Checkpoint g (is i).base (is i).floor (is i).head (reverse (is i).roots) (same i)))
 
--- ---- what is restored
--- a restored snapshot has as many entries as it is restored from
-pub restored-room : (version : ℕ) (es : List (List ℕ × List ℕ)) (written : List ℕ) (x : SnapshotValue) → IsRestored version es written x → length es ≤ 2 ^ 62 → len x.map ≤ 2 ^ 63
-restored-room version es written x restored few = omega (arith, few, fin.len-entries x.map, ap length restored.same)
+-- the snapshot has as many entries as there are
+pub imported-room : (version : ℕ) (es : List (List ℕ × List ℕ)) (x : SnapshotValue) → IsImported version es x → length es ≤ 2 ^ 62 → len x.map ≤ 2 ^ 63
+imported-room version es x imported few = omega (arith, few, fin.len-entries x.map, ap length imported.same)
 
--- the directory of a restored snapshot
-pub restored-imported : (version : ℕ) (es : List (List ℕ × List ℕ)) (written : List ℕ) (x : SnapshotValue) (d : Standing) → IsRestored version es written x → IsSnapshot x → T (is_sorted key_cmp es) → version ≤ 2 ^ 64 - 2 → length es ≤ 2 ^ 62
+-- the directory of the snapshot of entries has that one version
+pub versions-imported : (version : ℕ) (es : List (List ℕ × List ℕ)) (x : SnapshotValue) (d : Standing) → IsImported version es x → IsSnapshot x → T (is_sorted key_cmp es) → version ≤ 2 ^ 64 - 2 → length es ≤ 2 ^ 62
     → d ≡ snapshot_standing version [] x → versions_of d ≡ imported_versions version (map_of_entries es)
-restored-imported version es written x d restored snap sorted last few is =
-    let same : x.map ≡ map_of_entries es = map-from_entries x.map (map_of_entries es) (restored.same ∙ sym (fin.entries-from_sorted key_cmp es sorted)) in
-    let end : x.version < not_stale = omega (arith, last, restored.version) in
-    ap versions_of (is ∙ ap (λ v. snapshot_standing v [] x) (sym restored.version)) ∙ begun-imported x snap end (restored-room version es written x restored few)
-    ∙ ap (λ v. imported_versions v x.map) restored.version ∙ ap (imported_versions version) same
+versions-imported version es x d imported snap sorted last few is =
+    let same : x.map ≡ map_of_entries es = map-from_entries x.map (map_of_entries es) (imported.same ∙ sym (fin.entries-from_sorted key_cmp es sorted)) in
+    let end : x.version < not_stale = omega (arith, last, imported.version) in
+    ap versions_of (is ∙ ap (λ v. snapshot_standing v [] x) (sym imported.version)) ∙ begun-imported x snap end (imported-room version es x imported few)
+    ∙ ap (λ v. imported_versions v x.map) imported.version ∙ ap (imported_versions version) same

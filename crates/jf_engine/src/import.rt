@@ -20,14 +20,17 @@ use jf_files::{
     succeeds_by_records,
 };
 use jf_frame::DiskFault;
+use jf_join::{Gate, Workers};
 use jf_path::Pairs;
 use jf_standing::formats_are_sound;
 use std::alloc::Global;
+use std::thread::Threads;
 
 impl<D: Disk> Engine<D> {
     /// Makes a new store hold one version, whose map has these entries. Base, floor and head become that version. All
     /// memory is taken before the first call on the disk. One checkpoint of the next generation is written, in format
-    /// 2, to the side that isn't live, which is live from then on; all its nodes are named by that version.
+    /// 2, to the side that isn't live, which is live from then on; all its nodes are named by that version. The nodes are
+    /// made by at most this many workers, as those of a landing, and the gate is told of the pieces of this work.
     ///
     /// Refusals; after each but `DiskFault` store and disk are unchanged:
     ///
@@ -38,11 +41,14 @@ impl<D: Disk> Engine<D> {
     /// - `Memory`: memory ran out.
     /// - `DiskFault`: a call on the disk failed. The store is broken and shows the versions from before. After a crash
     ///   the files represent these, or the version imported.
-    pub fn import(
+    pub fn import<H: Threads + Sync, G: Gate>(
         &mut self,
+        rt: &H,
         alloc: Global,
         version: u64,
         entries: &Pairs,
+        workers: Workers,
+        gate: &G,
     ) -> Result<(), EngineFault>
         // The version is one that a store may have.
         requires bounded { version ≤ 2 ^ 64 - 2 }
@@ -77,7 +83,7 @@ impl<D: Disk> Engine<D> {
         stops_by_records();
         succeeds_by_records();
         let generation = self.generation + 1;
-        let directory = imported_directory(alloc, version, entries)?;
+        let directory = imported_directory(rt, alloc, version, entries, workers, gate)?;
         directory.know();
         let frame = checkpoint_frame(alloc, &directory, generation)?;
         match self.pair.switch(&mut self.disk, frame.as_slice()) {

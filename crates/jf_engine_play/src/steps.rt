@@ -107,7 +107,8 @@ fn prune(engine: &mut Engine<MemDisk>, floor: u64) -> Result<Taken, Fail> {
     Ok(engine.prune(floor))
 }
 
-fn import(
+fn import<H: Threads + Sync>(
+    rt: &H,
     alloc: Global,
     engine: &mut Engine<MemDisk>,
     version: u64,
@@ -117,7 +118,7 @@ fn import(
     if version == u64::MAX || !are_sorted(pairs.as_slice()) || !are_short(&pairs) {
         return Err(Fail::new("no such entries"));
     }
-    Ok(engine.import(alloc, version, &pairs))
+    Ok(engine.import(rt, alloc, version, &pairs, workers_of(2)?, &FreeGate))
 }
 
 /// Takes a step on a store.
@@ -132,7 +133,7 @@ pub fn take<H: Threads + Sync>(
         Step::LandAll(landings) => Ok(land_all(rt, alloc, engine, landings)?.map(|_| ())),
         Step::Prune(floor) => prune(engine, *floor),
         Step::Compact => Ok(engine.compact(alloc).map(|_| ())),
-        Step::Import(version, entries) => import(alloc, engine, *version, entries),
+        Step::Import(version, entries) => import(rt, alloc, engine, *version, entries),
     }
 }
 

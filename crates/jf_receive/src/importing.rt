@@ -8,15 +8,20 @@ use crate::received::{Received, RestoreFault};
 use jf_disk::Disk;
 use jf_engine::{Engine, EngineFault};
 use jf_hash::Hash;
+use jf_join::{Gate, Workers};
 use jf_restore::{Restore, RestoreRefused};
 use std::alloc::Global;
+use std::thread::Threads;
 
 /// Imports what was restored, if its root is the announced one.
-pub(crate) fn import<D: Disk>(
+pub(crate) fn import<D: Disk, H: Threads + Sync, G: Gate>(
+    rt: &H,
     alloc: Global,
     engine: &mut Engine<D>,
     root: Hash,
     restore: Restore,
+    workers: Workers,
+    gate: &G,
 ) -> Result<(), Received>
     requires root { restore.root ≡ root }
     requires unused { IsNewStore engine.old.versions }
@@ -26,7 +31,7 @@ pub(crate) fn import<D: Disk>(
     ensures err { (rest rest' text : Option (List ℕ)) → ComesToEntries root restore.entries rest rest' → IfErr result (λ how. HasReceived how restore.version root engine.old engine.new rest rest' text text) }
     ensures unstopped { (result ≡ Err Received.ReadFault → ⊥) × (result ≡ Err Received.WriteFault → ⊥) }
 {
-    match restore.finish(alloc, engine) {
+    match restore.finish(rt, alloc, engine, workers, gate) {
         Ok(_) => Ok(()),
         Err(RestoreRefused::NotWhole(found)) => {
             Err(Received::Refused(RestoreFault::NotWhole(root, found)))

@@ -14,16 +14,19 @@ use jf_disk::Disk;
 use jf_engine::Engine;
 use jf_hash::Hash;
 use jf_io::{Sink, Source, put_all};
+use jf_join::{Gate, Workers};
 use jf_path::Bytes;
 use std::alloc::Global;
+use std::thread::Threads;
 
 /// Restores a version, whose root is announced, into a new store, from the chunk blocks of a source (docs/FORMATS.md,
 /// "Restoring a version"); and writes into a sink the line that tells of it: `restored VERSION ROOT COUNT`.
 ///
 /// It takes input in pieces of at most 4,096 bytes, and only while no whole line is at hand, and stops at the first line
 /// that is refused. Nothing is imported before the whole input is read and judged, and all memory is taken before the first
-/// call on the disk. Each end but `Done`, `WriteFault` and `DiskFault` leaves store and disk unchanged, and each but `Done`
-/// and `WriteFault` the sink.
+/// call on the disk. The tree is made by at most this many workers, and the gate is told of the pieces of this work. Each
+/// end but `Done`, `WriteFault` and `DiskFault` leaves store and disk unchanged, and each but `Done` and `WriteFault` the
+/// sink.
 ///
 /// - `Refused(NotEmpty)`: the store isn't new. Nothing was read.
 /// - `Refused(Line)`, `Refused(Chunk)`: a line doesn't match, or a block isn't accepted. Fewer than 4,096 bytes after the
@@ -34,13 +37,16 @@ use std::alloc::Global;
 /// - `DiskFault`: the disk failed in the import. The store is broken; a crash leaves the versions from before, or the one
 ///   restored.
 /// - `WriteFault`: the version is restored, and the sink failed; it has a front of the line.
-pub fn receive<S: Source, K: Sink, D: Disk>(
+pub fn receive<S: Source, K: Sink, D: Disk, H: Threads + Sync, G: Gate>(
+    rt: &H,
     alloc: Global,
     engine: &mut Engine<D>,
     version: u64,
     root: Hash,
     source: &mut S,
     sink: &mut K,
+    workers: Workers,
+    gate: &G,
 ) -> Received
     // The version is at most 2^64 - 2.
     requires bounded { version ≤ 2 ^ 64 - 2 }
@@ -66,7 +72,7 @@ pub fn receive<S: Source, K: Sink, D: Disk>(
     if let Some(head) = head_in_use(engine) {
         return Received::Refused(RestoreFault::NotEmpty(head));
     }
-    let line = match restore_new(alloc, engine, version, root, source) {
+    let line = match restore_new(rt, alloc, engine, version, root, source, workers, gate) {
         Ok(line) => line,
         Err(how) => return how,
     };
@@ -77,12 +83,15 @@ pub fn receive<S: Source, K: Sink, D: Disk>(
 }
 
 /// Restores a version into a store that is new, and returns the line that tells of it.
-fn restore_new<S: Source, D: Disk>(
+fn restore_new<S: Source, D: Disk, H: Threads + Sync, G: Gate>(
+    rt: &H,
     alloc: Global,
     engine: &mut Engine<D>,
     version: u64,
     root: Hash,
     source: &mut S,
+    workers: Workers,
+    gate: &G,
 ) -> Result<Bytes, Received>
     requires bounded { version ≤ 2 ^ 64 - 2 }
     requires whole { engine.old.broken ≡ false }
@@ -100,7 +109,7 @@ fn restore_new<S: Source, D: Disk>(
     let Ok(line) = restored_line(alloc, version, &root, restore.count()) else {
         return Err(Received::Memory);
     };
-    match import(alloc, engine, root, restore) {
+    match import(rt, alloc, engine, root, restore, workers, gate) {
         Ok(()) => Ok(line),
         Err(how) => Err(how),
     }

@@ -10,12 +10,14 @@ use crate::refused::RestoreRefused;
 use jf_disk::Disk;
 use jf_engine::Engine;
 use jf_hash::Hash;
+use jf_join::{Gate, Workers};
 use jf_path::Pairs;
 use jf_range::{Frontier, RangeProof};
 use jf_steps::Steps;
 use std::alloc::Global;
 use std::marker::{Brand, Model};
 use std::sync::ledger::{Blank, Ledger};
+use std::thread::Threads;
 
 /// The entries of the chunks that were accepted so far, in their order, for a version whose root was announced. The
 /// left frontier of the entries is kept beside them, so that no entry is hashed again.
@@ -157,23 +159,35 @@ impl Restore {
     }
 
     /// Makes a new store hold the version with the entries that were added, if their root is the announced one, and returns
-    /// how many they are. It is imported as `Engine::import` says, in the next generation of the files.
+    /// how many they are. It is imported as `Engine::import` says, in the next generation of the files. Its nodes are made
+    /// by at most this many workers, and the gate is told of the pieces of this work.
     ///
     /// Refusals; after each but that of the disk the store is unchanged:
     ///
     /// - `NotWhole(found)`: the root of the entries is another one.
     /// - `Engine(why)`: the store didn't import them. After `Engine(DiskFault)` it is broken, and a crash leaves the
     ///   versions from before or the one restored.
-    pub fn finish<D: Disk>(
+    pub fn finish<D: Disk, H: Threads + Sync, G: Gate>(
         self,
+        rt: &H,
         alloc: Global,
         engine: &mut Engine<D>,
+        workers: Workers,
+        gate: &G,
     ) -> Result<u64, RestoreRefused>
         // The store holds exactly that version, or the reason that is returned holds; a crash leaves the one or the other.
         ensures { MatchResult result (IsFinished self engine.old engine.new) (IsNotFinished self engine.old engine.new) }
     {
         let count = self.whole()?;
-        match import(alloc, engine, self.version, &self.entries) {
+        match import(
+            rt,
+            alloc,
+            engine,
+            self.version,
+            &self.entries,
+            workers,
+            gate,
+        ) {
             Ok(()) => Ok(count),
             Err(why) => Err(RestoreRefused::Engine(why)),
         }

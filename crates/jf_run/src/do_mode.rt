@@ -91,8 +91,12 @@ pub(crate) fn do_mode<S: Source, K: Sink, D: Disk, H: Threads + Wait + Sync, G: 
         Mode::Restore {
             version,
             root,
-            workers: _,
-        } => restore_over(alloc, engine, version, root, source, sink),
+            workers,
+        } => {
+            restore_over(
+                rt, alloc, engine, version, root, source, sink, workers, gate,
+            )
+        }
         Mode::Trim => trim_over(alloc, engine, sink),
         Mode::Check => unreachable!(),
         Mode::History { version } => history_over(alloc, engine, version, sink),

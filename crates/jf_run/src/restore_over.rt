@@ -13,19 +13,24 @@ use jf_engine::Engine;
 use jf_files::damage_is_no_versions;
 use jf_hash::Hash;
 use jf_io::{Sink, Source};
+use jf_join::{Gate, Workers};
 use jf_model::Ledger;
 use jf_receive::{RestoreFault, receive};
 use std::alloc::Global;
+use std::thread::Threads;
 
 /// Restores into a new store the version of the chunk blocks of a source, whose root was announced, and writes a line about
 /// it into a sink.
-pub(crate) fn restore_over<S: Source, K: Sink, D: Disk>(
+pub(crate) fn restore_over<S: Source, K: Sink, D: Disk, H: Threads + Sync, G: Gate>(
+    rt: &H,
     alloc: Global,
     mut engine: Engine<D>,
     version: u64,
     root: Hash,
     source: &mut S,
     sink: &mut K,
+    workers: Workers,
+    gate: &G,
 ) -> Over<D>
     requires whole { engine.broken ≡ false }
     requires bounded { version ≤ max_version }
@@ -35,6 +40,16 @@ pub(crate) fn restore_over<S: Source, K: Sink, D: Disk>(
 {
     engine.know();
     damage_is_no_versions();
-    let how = receive(alloc, &mut engine, version, root, source, sink);
+    let how = receive(
+        rt,
+        alloc,
+        &mut engine,
+        version,
+        root,
+        source,
+        sink,
+        workers,
+        gate,
+    );
     Over::of_engine(Status::of_received(how), engine, Ledger::new(alloc))
 }
