@@ -36,7 +36,7 @@ pub(crate) fn restore_over<S: Source, K: Sink, D: Disk, H: Threads + Sync, G: Ga
     requires bounded { version ≤ max_version }
     ensures untouched { (head : ℕ) → result.status ≡ Status.Refused (RestoreFault.NotEmpty head) → (source.new ≡ source.old) × (sink.new ≡ sink.old) }
     ensures here { (head : ℕ) (root : List ℕ) → result.status ≢ Status.Elsewhere head root }
-    ensures kept { (workers : ℕ) → CompletesCall (mode.Restore version root workers) (state_when_opened engine.versions engine.generation) (shown_devices S.Source K.Sink source.old sink.old (engine_disk engine)) (shown_devices S.Source K.Sink source.new sink.new (disk_of D.Disk result.disk)) result.status result.entries }
+    ensures kept { CompletesCall (mode.Restore version root workers) (state_when_opened engine.versions engine.generation) (shown_devices S.Source K.Sink source.old sink.old (engine_disk engine)) (shown_devices S.Source K.Sink source.new sink.new (disk_of D.Disk result.disk)) result.status result.entries }
 {
     engine.know();
     damage_is_no_versions();

@@ -135,7 +135,7 @@ pub restore_over-requires-clause-bounded : goal.restore_over-requires-clause-bou
 restore_over-requires-clause-bounded g c κs within = (subst KeepsLimits c.in-Restore.is c.requires.limits).0
 
 pub returns-in-Restore-clause-kept : goal.returns-in-Restore-clause-kept
-returns-in-Restore-clause-kept g c = completes_as _ _ _ _ _ _ _ c.in-Restore.is (c.restore_over.ensures.kept c.in-Restore.workers)
+returns-in-Restore-clause-kept g c = completes_as _ _ _ _ _ _ _ c.in-Restore.is c.restore_over.ensures.kept
 
 pub returns-in-Restore-clause-untouched : goal.returns-in-Restore-clause-untouched
 returns-in-Restore-clause-untouched g c = untouched_as _ _ _ _ _ _ _ c.in-Restore.is (record {
